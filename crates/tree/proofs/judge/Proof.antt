@@ -1,0 +1,62 @@
+use borrow.Author.Needs.{needs}
+use borrow.Author.Tests.{eq-eqb, ne-eqb}
+use Prim.Native.Nat.{_-_}
+use mathlib.Core.Path.{sym, _∙_}
+use Rattle.tree.specs.Judge.{judged}
+use Rattle.tree.proofs.judge.Statement.{statement}
+use Rattle.tree.proofs.judge.Tie as tie
+
+has-mark-requires : tie.Need-has-mark-requires
+has-mark-requires c κs = search needs
+
+u16-at-requires : tie.Need-u16-at-requires
+u16-at-requires c κs = search needs
+
+u16-at-requires-2 : tie.Need-u16-at-requires-2
+u16-at-requires-2 c κs = search needs
+
+u16-at-requires-3 : tie.Need-u16-at-requires-3
+u16-at-requires-3 c κs = search needs
+
+u16-at-requires-4 : tie.Need-u16-at-requires-4
+u16-at-requires-4 c κs = search needs
+
+judge3-requires : tie.Need-judge3-requires
+judge3-requires c κs = search needs
+
+returns : tie.Need-returns
+unfolding judged
+returns c =
+    c .judge3 .ensures ∙ simp (sym (c .before .before .before .before .before .before .before .has-mark .ensures) ∙ (c .before .before .before .before .before .before .if1 .taken), eq-eqb _ _ (sym (c .before .before .before .before .before .u16-at .ensures .0) ∙ (c .before .before .before .before .if2 .taken)), c .before .before .before .u16-at2 .ensures .0, c .before .before .u16-at3 .ensures .0, c .before .u16-at4 .ensures .0)
+
+refused-requires : tie.Need-refused-requires
+refused-requires c κs = search needs
+
+returns-2 : tie.Need-returns-2
+unfolding judged
+returns-2 c =
+    c .refused .ensures ∙ simp (sym (c .before .before .before .before .has-mark .ensures) ∙ (c .before .before .before .if1 .taken), ne-eqb _ _ (λ w. (c .before .if2 .left) (c .before .before .u16-at .ensures .0 ∙ w)))
+
+refused-requires-2 : tie.Need-refused-requires-2
+refused-requires-2 c κs = search needs
+
+returns-3 : tie.Need-returns-3
+unfolding judged
+returns-3 c =
+    c .refused2 .ensures ∙ simp (sym (c .before .before .has-mark .ensures) ∙ (c .before .if1 .left))
+
+pub judge-spec : {M : Type 1} → statement M
+judge-spec =
+    tie.close
+    (tie.spec
+    has-mark-requires
+    u16-at-requires
+    u16-at-requires-2
+    u16-at-requires-3
+    u16-at-requires-4
+    judge3-requires
+    returns
+    refused-requires
+    returns-2
+    refused-requires-2
+    returns-3)

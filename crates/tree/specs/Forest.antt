@@ -1,0 +1,53 @@
+-- The tree of a file: what the rules of 01 recurse over. Assumes nothing.
+use Prim.Native.Nat.{ℕ, zero, suc, _+_, _-_, _≤_, _<_}
+use mathlib.Core.List.{List}
+use mathlib.Core.Bool.{true, false}
+use lib.Dec.{ltb}
+use Rattle.tree.specs.Bytes.{nodeCount, kindAt, roleAt, sizeAt, beginAt, endAt, valueAt}
+
+-- a span, and the number of the value that stands there (65535: none)
+pub record Spot : Type 0 where
+  pub begin : ℕ
+  pub end : ℕ
+  pub value : ℕ
+
+-- what a node says of itself
+pub record Head : Type 0 where
+  pub kind : ℕ
+  pub role : ℕ
+  pub spot : Spot
+
+-- nothing, or a node: its head, its children, and its later siblings
+pub data Forest : Type 0 where
+  none : Forest
+  node : Head → Forest → Forest → Forest
+
+unfoldable pub spotAt : List ℕ → ℕ → Spot
+spotAt t i = record { begin = beginAt t i; end = endAt t i; value = valueAt t i }
+
+unfoldable pub headAt : List ℕ → ℕ → Head
+headAt t i = record { kind = kindAt t i; role = roleAt t i; spot = spotAt t i }
+
+-- The nodes from i up to e, as siblings with what is below them. The first argument is at least their number:
+-- forest-node and forest-none of proofs/Laws say what this is without it.
+unfoldable pub forestIn : ℕ → List ℕ → ℕ → ℕ → Forest
+forestIn zero t i e = none
+forestIn (suc k) t i e =
+    elim (ltb i e) [
+      | true ↦ node (headAt t i) (forestIn k t (i + 1) (i + sizeAt t i)) (forestIn k t (i + sizeAt t i) e)
+      | false ↦ none
+    ]
+
+unfoldable pub forestOf : List ℕ → ℕ → ℕ → Forest
+forestOf t i e = forestIn (e - i) t i e
+
+-- the tree of a file: node 0 with what is below it
+unfoldable pub treeOf : List ℕ → Forest
+treeOf t = forestOf t 0 (nodeCount t)
+
+-- The nodes from i up to e are whole subtrees, and so are those below each of them.
+pub record Part (t : List ℕ) (i e : ℕ) : Type 0 where
+  pub few : e ≤ 1024
+  pub some : (j : ℕ) → i ≤ j → j < e → 1 ≤ sizeAt t j
+  pub ends : (j : ℕ) → i ≤ j → j < e → j + sizeAt t j ≤ e
+  pub nest : (j k : ℕ) → i ≤ j → j < e → j < k → k < j + sizeAt t j → k + sizeAt t k ≤ j + sizeAt t j

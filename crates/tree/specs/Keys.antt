@@ -1,0 +1,95 @@
+-- 01, "Keys": which numbers values stand for, and when two of them are the same key. Assumes nothing.
+use Prim.Native.Nat.{ℕ, zero, suc, _+_, _*_, _/_, _%_, _^_}
+use mathlib.Core.Bool.{Bool, true, false, cond, _&&_, _||_, not}
+use mathlib.Core.List.{List, [], _∷_}
+use mathlib.Core.Option.{Option, none, some}
+use lib.Dec.{eqb, leb, ltb}
+use Rattle.tree.specs.Values.{Value, Sense, a-name, a-text, an-integer, a-float, unknown, sense, magnitude, little}
+
+-- A binary64 with the sign clear, from its 64 bits: 52 bits of digits, above them the exponent's field.
+-- Its value is a whole number of grains, the grain being 2 to the -1074; a field above 0 has a leading digit.
+abbrev pub field : ℕ → ℕ
+field b = b / 2 ^ 52
+
+abbrev pub digits : ℕ → ℕ
+digits b = b % 2 ^ 52
+
+abbrev pub scaled : ℕ → ℕ → ℕ
+scaled zero t = t
+scaled (suc x) t = (2 ^ 52 + t) * 2 ^ x
+
+abbrev pub grains : ℕ → ℕ
+grains b = scaled (field b) (digits b)
+
+-- neither infinity nor NaN (nor negative)
+abbrev pub finite : ℕ → Bool
+finite b = ltb (field b) 2047
+
+abbrev pub whole-if : Bool → ℕ → Option ℕ
+whole-if true g = some (g / 2 ^ 1074)
+whole-if false g = none
+
+-- the whole number that a float is, if it is one
+abbrev pub whole : ℕ → Option ℕ
+whole b = whole-if (finite b && eqb (grains b % 2 ^ 1074) 0) (grains b)
+
+pub data Mode : Type 0 where
+  ordinary strict : Mode
+
+-- "A float that is a whole i32 is that integer"; strict: "a whole float below 2^53 equals the integer of that value"
+abbrev pub counts : Mode → ℕ → Bool
+counts ordinary n = ltb n (2 ^ 31)
+counts strict n = ltb n (2 ^ 53)
+
+abbrev pub only-if : Bool → ℕ → Option ℕ
+only-if true n = some n
+only-if false n = none
+
+abbrev pub counted : Mode → Option ℕ → Option ℕ
+counted m none = none
+counted m (some n) = only-if (counts m n) n
+
+abbrev pub number-as : Mode → Sense → List ℕ → Option ℕ
+number-as m a-name bs = none
+number-as m a-text bs = none
+number-as m an-integer bs = some (magnitude bs)
+number-as m a-float bs = counted m (whole (little bs))
+number-as m unknown bs = none
+
+-- the number that a value stands for as a key
+abbrev pub number : Mode → Value → Option ℕ
+number m v = number-as m (sense (v .kind)) (v .bytes)
+
+-- the key test: different, the same form, the same number in two forms
+pub data Likeness : Type 0 where
+  different same-form same-number : Likeness
+
+abbrev pub same-bytes : List ℕ → List ℕ → Bool
+same-bytes [] [] = true
+same-bytes [] (c ∷ cs) = false
+same-bytes (b ∷ bs) [] = false
+same-bytes (b ∷ bs) (c ∷ cs) = eqb b c && same-bytes bs cs
+
+abbrev pub formed-alike : Value → Value → Bool
+formed-alike v w = eqb (v .kind) (w .kind) && same-bytes (v .bytes) (w .bytes)
+
+abbrev pub same-numbers : Option ℕ → Option ℕ → Bool
+same-numbers none o = false
+same-numbers (some n) none = false
+same-numbers (some n) (some k) = eqb n k
+
+abbrev pub likeness : Bool → Bool → Likeness
+likeness true b = same-form
+likeness false true = same-number
+likeness false false = different
+
+abbrev pub like : Mode → Value → Value → Likeness
+like m v w = likeness (formed-alike v w) (same-numbers (number m v) (number m w))
+
+abbrev pub alike : Likeness → Bool
+alike different = false
+alike same-form = true
+alike same-number = true
+
+abbrev pub same-key : Mode → Value → Value → Bool
+same-key m v w = alike (like m v w)

@@ -1,0 +1,11 @@
+-- What the contracts of tree cite.
+pub mod Bytes
+pub mod Search
+pub mod Values
+pub mod Nodes
+pub mod Children
+pub mod Judge
+pub mod Forest
+pub mod Keys
+pub mod Table
+pub mod Samples

@@ -1,0 +1,196 @@
+// The tree file of document 01: any bytes are judged, and are a valid tree or refused by number and place.
+// Cost: linear in the bytes; 4 KiB of arrays on the stack (parents and depths, two bytes a node).
+ghost use mathlib.Core.Path.{_≡_};
+ghost use Prim.Native.Nat.{_≤_};
+ghost use Rattle.tree.specs.Judge.{marked, listed, limits, judged9, judged8, judged7, judged6, judged5, judged4, judged3, judged, None5, None6};
+use bytes::u16_at;
+use children::first7;
+use nodes::first6;
+use nodes::first8;
+use nodes::parents;
+use values::count_names;
+use values::first5;
+use values::first9;
+use values::values_end;
+
+pub mod bytes;
+mod children;
+mod nodes;
+mod values;
+
+// What a valid file says of itself.
+pub struct Facts {
+    pub nodes: usize,
+    pub values: usize,
+    pub names: usize,
+    pub globals: usize,
+    pub rest: usize,
+}
+
+// Why a file is refused, with the place where 01 gives one. Specs' numberOf and placeOf give 01's numbers.
+pub enum Refusal {
+    Mark,
+    Version,
+    Counts,
+    Sections,
+    Value(usize),
+    Node(usize),
+    Children(usize),
+    Depth(usize),
+    Global(usize),
+}
+
+pub enum Judged {
+    Valid(Facts),
+    Refused(Refusal),
+}
+
+fn refused(why: Refusal) -> Judged
+    ensures { λ r. ⌜ r ≡ Judged.Refused why ⌝ }
+{
+    Judged::Refused(why)
+}
+
+fn listed_of(g: usize) -> usize
+    ensures { λ r. ⌜ r ≡ listed g ⌝ }
+{
+    if g == 65535 {
+        return 0;
+    }
+    g
+}
+
+fn judge9(t: &[u8], n: usize, nv: usize, g: usize) -> Judged
+    requires { ⌜ (n ≤ 1024) × (nv ≤ 512) × (listed g ≤ 512) × (1 ≤ n) × None5 (now t) n nv ⌝ }
+    ensures { λ r. ⌜ r ≡ judged9 (now (t .entry)) n nv g ⌝ }
+{
+    let names = count_names(t, n, nv);
+    let at = values_end(t, n, nv);
+    let count = listed_of(g);
+    let p = first9(t, n, nv, at, names, count);
+    if p < count {
+        return refused(Refusal::Global(p));
+    }
+    Judged::Valid(Facts {
+        nodes: n,
+        values: nv,
+        names,
+        globals: g,
+        rest: at,
+    })
+}
+
+fn judge8(t: &[u8], n: usize, nv: usize, g: usize) -> Judged
+    requires { ⌜ (n ≤ 1024) × (nv ≤ 512) × (listed g ≤ 512) × (1 ≤ n) × None5 (now t) n nv ⌝ }
+    ensures { λ r. ⌜ r ≡ judged8 (now (t .entry)) n nv g ⌝ }
+{
+    let par = parents(t, n);
+    let p = first8(t, n, &par);
+    if p < n {
+        return refused(Refusal::Depth(p));
+    }
+    judge9(t, n, nv, g)
+}
+
+fn judge7(t: &[u8], n: usize, nv: usize, g: usize) -> Judged
+    requires { ⌜ (n ≤ 1024) × (nv ≤ 512) × (listed g ≤ 512) × (1 ≤ n) × None5 (now t) n nv × None6 (now t) n nv ⌝ }
+    ensures { λ r. ⌜ r ≡ judged7 (now (t .entry)) n nv g ⌝ }
+{
+    let p = first7(t, n, nv);
+    if p < n {
+        return refused(Refusal::Children(p));
+    }
+    judge8(t, n, nv, g)
+}
+
+fn judge6(t: &[u8], n: usize, nv: usize, g: usize) -> Judged
+    requires { ⌜ (n ≤ 1024) × (nv ≤ 512) × (listed g ≤ 512) × (1 ≤ n) × None5 (now t) n nv ⌝ }
+    ensures { λ r. ⌜ r ≡ judged6 (now (t .entry)) n nv g ⌝ }
+{
+    let names = count_names(t, n, nv);
+    let par = parents(t, n);
+    let p = first6(t, n, nv, names, &par);
+    if p < n {
+        return refused(Refusal::Node(p));
+    }
+    judge7(t, n, nv, g)
+}
+
+fn judge5(t: &[u8], n: usize, nv: usize, g: usize) -> Judged
+    requires { ⌜ (n ≤ 1024) × (nv ≤ 512) × (listed g ≤ 512) × (1 ≤ n) ⌝ }
+    ensures { λ r. ⌜ r ≡ judged5 (now (t .entry)) n nv g ⌝ }
+{
+    let p = first5(t, n, nv);
+    if p < nv {
+        return refused(Refusal::Value(p));
+    }
+    judge6(t, n, nv, g)
+}
+
+fn judge4(t: &[u8], n: usize, nv: usize, g: usize) -> Judged
+    requires { ⌜ (n ≤ 1024) × (nv ≤ 512) × (listed g ≤ 512) × (1 ≤ n) ⌝ }
+    ensures { λ r. ⌜ r ≡ judged4 (now (t .entry)) n nv g ⌝ }
+{
+    if values_end(t, n, nv) + 2 * listed_of(g) == t.len() {
+        return judge5(t, n, nv, g);
+    }
+    refused(Refusal::Sections)
+}
+
+fn within(n: usize, nv: usize, g: usize) -> bool
+    ensures { λ r. ⌜ r ≡ limits n nv g ⌝ }
+{
+    if n < 1 {
+        return false;
+    }
+    if 1024 < n {
+        return false;
+    }
+    if 512 < nv {
+        return false;
+    }
+    if g <= 512 {
+        return true;
+    }
+    g == 65535
+}
+
+fn judge3(t: &[u8], n: usize, nv: usize, g: usize) -> Judged
+    ensures { λ r. ⌜ r ≡ judged3 (now (t .entry)) n nv g ⌝ }
+{
+    if within(n, nv, g) {
+        return judge4(t, n, nv, g);
+    }
+    refused(Refusal::Counts)
+}
+
+fn has_mark(t: &[u8]) -> bool
+    ensures { λ r. ⌜ r ≡ marked (now (t .entry)) ⌝ }
+{
+    let m = b"SLT";
+    if t.len() < 11 {
+        return false;
+    }
+    if t[0] != m[0] {
+        return false;
+    }
+    if t[1] != m[1] {
+        return false;
+    }
+    if t[2] != m[2] {
+        return false;
+    }
+    true
+}
+
+pub fn judge(t: &[u8]) -> Judged
+    ensures { λ r. ⌜ r ≡ judged (now (t .entry)) ⌝ }
+{
+    if has_mark(t) {
+        if u16_at(t, 3) == 1 {
+            return judge3(t, u16_at(t, 5), u16_at(t, 7), u16_at(t, 9));
+        }
+        return refused(Refusal::Version);
+    }
+    refused(Refusal::Mark)
+}
