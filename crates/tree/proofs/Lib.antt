@@ -10,3 +10,4 @@ pub mod Six
 pub mod Limits
 pub mod Above
 pub mod Kids
+pub mod Samples

@@ -4,6 +4,7 @@ pub mod Search
 pub mod Values
 pub mod Nodes
 pub mod Children
+pub mod Rows
 pub mod Judge
 pub mod Forest
 pub mod Keys

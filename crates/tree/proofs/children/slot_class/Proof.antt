@@ -1,48 +1,36 @@
 use borrow.Author.Needs.{needs}
-use Prim.Native.Nat.{_-_}
-use native.Mathlib.Omega.{arith}
 use mathlib.Core.Path.{_∙_}
-use Rattle.tree.proofs.Slots.{far-kind, far-role, class-at, class-list}
+use Rattle.tree.proofs.Slots.{class-list, class-at}
 use Rattle.tree.proofs.children.slot_class.Statement.{statement}
 use Rattle.tree.proofs.children.slot_class.Tie as tie
+use Rattle.tree.proofs.children.slot_class.Reads as reads
+use Rattle.tree.proofs.children.slot_class.Lts as lts
+use Rattle.tree.proofs.bytes.widen.Reads as widen-reads
+use Rattle.tree.proofs.children.slot_number.Reads as slot-number-reads
 
-returns : tie.Need-returns
-returns c =
-    rw (far-kind (c .before .args .k) (c .before .args .r) (c .if1 .taken))
+-- src/children.rt:136:19
+slot-number-requires : tie.Need-slot-number-requires
+slot-number-requires c κs = search needs
 
-returns-2 : tie.Need-returns-2
-returns-2 c =
-    rw (far-role (c .before .before .args .k) (c .before .before .args .r) (c .if2 .taken))
-
+-- src/children.rt:136:11
 mul-widen : tie.Need-mul-widen
 mul-widen c = search needs
 
-add-widen : tie.Need-add-widen
-add-widen c = search needs
-
-mul-widen-2 : tie.Need-mul-widen-2
-mul-widen-2 c = search needs
-
+-- src/children.rt:136:11
 array-read-widen : tie.Need-array-read-widen
 array-read-widen c = search needs
 
+-- src/children.rt:136:5
 widen-requires : tie.Need-widen-requires
 widen-requires c κs = search needs
 
-returns-3 : tie.Need-returns-3
+-- src/children.rt:133:1
+returns : tie.Need-returns
 unfolding class-list
-returns-3 c =
-    c .widen .ensures .0 ∙ class-at (c .before .before .before .args .k) (c .before .before .before .args .r) (omega arith) (omega arith)
+returns c =
+    c .widen .ensures .0
+    ∙ (rw (c .before .slot-number .ensures .0) (class-at (c .before .before .args .k) (c .before .before .args .r)))
 
 pub slot-class-spec : {M : Type 1} → statement M
 slot-class-spec =
-    tie.close
-    (tie.spec
-    returns
-    returns-2
-    mul-widen
-    add-widen
-    mul-widen-2
-    array-read-widen
-    widen-requires
-    returns-3)
+    tie.close (tie.spec slot-number-requires mul-widen array-read-widen widen-requires returns)
