@@ -23,5 +23,5 @@ agree [] = true
 agree (s ∷ ss) = says (judged (s .bytes)) (s .number) (s .place) && agree ss
 
 pub samples-agree : agree samples ≡ true
-unfolding judged judged3 judged4 judged5 judged6 judged7 judged8 judged9 factsOf namesOf first u16At u32At u64At kindAt roleAt sizeAt beginAt endAt valueAt lastAt offset formed bytesLess ordered bad5 bad9 parentIn parentOf limitOf known valueFits good6 bad6 depthIn depthOf bad8 classOf slotOf kidsIn kidsOf allStand ofRole allFilled paired forFirst inOrder good7 rootOk bad7 numberOf placeOf samples
+unfolding judged judged3 judged4 judged5 judged6 judged7 judged8 judged9 factsOf namesOf first u16At u32At u64At kindAt roleAt sizeAt beginAt endAt valueAt lastAt offset formed bytesLess ordered bad5 bad9 parentIn parentOf limitOf known valueFits good6 bad6 depthIn depthOf bad8 classOf slotOf kidsIn kidsOf allStand ofRole allFilled paired forFirst inOrder good7 rootOk bad7 samples
 samples-agree = refl

@@ -16,7 +16,7 @@ use Rattle.tree.specs.declared.Judged.{Judged}
 use Rattle.tree.specs.declared.Judged.the-variants.{Valid, Refused}
 
 -- 01's number and place of each refusal
-unfoldable pub numberOf : Refusal → ℕ
+abbrev pub numberOf : Refusal → ℕ
 numberOf Mark = 1
 numberOf Version = 2
 numberOf Counts = 3
@@ -27,7 +27,7 @@ numberOf (Children i) = 7
 numberOf (Depth i) = 8
 numberOf (Global i) = 9
 
-unfoldable pub placeOf : Refusal → ℕ
+abbrev pub placeOf : Refusal → ℕ
 placeOf Mark = 0
 placeOf Version = 0
 placeOf Counts = 0

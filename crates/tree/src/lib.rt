@@ -2,7 +2,7 @@
 // Cost: linear in the bytes; 4 KiB of arrays on the stack (parents and depths, two bytes a node).
 ghost use mathlib.Core.Path.{_≡_};
 ghost use Prim.Native.Nat.{_≤_};
-ghost use Rattle.tree.specs.Judge.{marked, listed, limits, judged9, judged8, judged7, judged6, judged5, judged4, judged3, judged, None5, None6};
+ghost use Rattle.tree.specs.Judge.{numberOf, placeOf, marked, listed, limits, judged9, judged8, judged7, judged6, judged5, judged4, judged3, judged, None5, None6};
 use bytes::u16_at;
 use children::first7;
 use nodes::first6;
@@ -40,6 +40,43 @@ pub enum Refusal {
     Global(usize),
 }
 
+impl Refusal {
+    // 01's number.
+    pub fn number(self) -> usize
+        ensures { λ r. ⌜ r ≡ numberOf self ⌝ }
+    {
+        match self {
+            Refusal::Mark => 1,
+            Refusal::Version => 2,
+            Refusal::Counts => 3,
+            Refusal::Sections => 4,
+            Refusal::Value(_) => 5,
+            Refusal::Node(_) => 6,
+            Refusal::Children(_) => 7,
+            Refusal::Depth(_) => 8,
+            Refusal::Global(_) => 9,
+        }
+    }
+
+    // 01's place: a value's number, a node's, or a global's position.
+    pub fn place(self) -> usize
+        ensures { λ r. ⌜ r ≡ placeOf self ⌝ }
+    {
+        match self {
+            Refusal::Mark => 0,
+            Refusal::Version => 0,
+            Refusal::Counts => 0,
+            Refusal::Sections => 0,
+            Refusal::Value(i) => i,
+            Refusal::Node(i) => i,
+            Refusal::Children(i) => i,
+            Refusal::Depth(i) => i,
+            Refusal::Global(i) => i,
+        }
+    }
+}
+
+// What a file is judged to be.
 pub enum Judged {
     Valid(Facts),
     Refused(Refusal),
