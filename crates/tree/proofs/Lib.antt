@@ -10,3 +10,6 @@ pub mod Six
 pub mod Limits
 pub mod Above
 pub mod Kids
+pub mod Laws
+pub mod Whole
+pub mod Rows

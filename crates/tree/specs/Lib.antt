@@ -8,4 +8,6 @@ pub mod Judge
 pub mod Forest
 pub mod Keys
 pub mod Table
+pub mod Shape
+pub mod Sound
 pub mod Samples
