@@ -13,3 +13,4 @@ pub mod Kids
 pub mod Laws
 pub mod Whole
 pub mod Rows
+pub mod Fits
