@@ -14,3 +14,4 @@ pub mod Laws
 pub mod Whole
 pub mod Rows
 pub mod Fits
+pub mod Find

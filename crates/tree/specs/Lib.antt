@@ -10,4 +10,5 @@ pub mod Keys
 pub mod Table
 pub mod Shape
 pub mod Sound
+pub mod Find
 pub mod Samples
