@@ -7,6 +7,7 @@ use mathlib.Core.List.{List}
 use borrow.Author.Tests.{lt-ltb, le-ltb, eq-eqb, ne-eqb}
 use Rattle.tree.specs.Bytes.{roleAt, sizeAt}
 use Rattle.tree.specs.Forest.{Forest, none, node, headAt, forestOf, Part}
+use Rattle.tree.specs.Shape.{many}
 use Rattle.tree.specs.Find.{childIn, childOf, from-role}
 use Rattle.tree.proofs.Laws.{sized, ended, rest, forest-none, forest-node, induct}
 
@@ -115,3 +116,43 @@ child-forest {t} p r = seek r (λ i e. from-role r (forestOf t i e) ≡ forestOf
     next : (i e : ℕ) → Part t i e → i < e → (roleAt t i ≡ r → ⊥) → from-role r (forestOf t (i + sizeAt t i) e) ≡ forestOf t (childOf t r (i + sizeAt t i) e) e
         → from-role r (forestOf t i e) ≡ forestOf t (childOf t r i e) e
     next i e p lt q ih = rw (child-next p lt r q, forest-node p lt) (rw (ne-eqb r (roleAt t i) (λ z. q (sym z)), from-role) ih)
+
+-- where there is one, it is the first of those; where there is none, nothing is left
+pub child-node : {t : List ℕ} {i e : ℕ} → Part t i e → (r : ℕ) → i ≤ e → childOf t r i e < e
+    → from-role r (forestOf t i e)
+    ≡ node (headAt t (childOf t r i e))
+      (forestOf t (childOf t r i e + 1) (childOf t r i e + sizeAt t (childOf t r i e)))
+      (forestOf t (childOf t r i e + sizeAt t (childOf t r i e)) e)
+child-node p r l lt = child-forest p r ∙ forest-node (child-part p r l) lt
+
+pub child-none : {t : List ℕ} {i e : ℕ} → Part t i e → (r : ℕ) → e ≤ childOf t r i e → from-role r (forestOf t i e) ≡ none
+child-none {t} {i} {e} p r h = child-forest p r ∙ forest-none t (childOf t r i e) e h
+
+-- how many have the role: node i and the later ones
+module _ {t : List ℕ} {i e : ℕ} (p : Part t i e) (lt : i < e) (r : ℕ) where
+  pub many-here : roleAt t i ≡ r → many r (forestOf t i e) ≡ suc (many r (forestOf t (i + sizeAt t i) e))
+  unfolding many headAt
+  many-here q = rw (forest-node p lt) (simp (eq-eqb _ _ q) (omega arith))
+
+  pub many-next : (roleAt t i ≡ r → ⊥) → many r (forestOf t i e) ≡ many r (forestOf t (i + sizeAt t i) e)
+  unfolding many headAt
+  many-next q = rw (forest-node p lt) (simp (ne-eqb _ _ q) (omega arith))
+
+pub many-end : (t : List ℕ) (i e r : ℕ) → e ≤ i → many r (forestOf t i e) ≡ 0
+unfolding many
+many-end t i e r h = rw (forest-none t i e h)
+
+-- from the first of the role on, all of them stand
+pub child-many : {t : List ℕ} {i e : ℕ} → Part t i e → (r : ℕ) → many r (forestOf t (childOf t r i e) e) ≡ many r (forestOf t i e)
+child-many {t} p r =
+    seek r (λ i e. many r (forestOf t (childOf t r i e) e) ≡ many r (forestOf t i e)) t
+    (λ i e h. rw (child-end t r i e h) (many-end t e e r (omega arith) ∙ sym (many-end t i e r h)))
+    (λ i e p lt q. rw (child-here t r i e lt q))
+    (λ i e p lt q ih. rw (child-next p lt r q, many-next p lt r q) ih) p
+
+pub child-there : {t : List ℕ} {i e : ℕ} → Part t i e → (r : ℕ) → 1 ≤ many r (forestOf t i e) → childOf t r i e < e
+child-there {t} p r =
+    seek r (λ i e. 1 ≤ many r (forestOf t i e) → childOf t r i e < e) t
+    (λ i e h l. absurd (omega (arith, many-end t i e r h)))
+    (λ i e p lt q l. omega (arith, child-here t r i e lt q))
+    (λ i e p lt q ih l. rw (child-next p lt r q) (ih (omega (arith, many-next p lt r q)))) p

@@ -15,3 +15,4 @@ pub mod Whole
 pub mod Rows
 pub mod Fits
 pub mod Find
+pub mod Shape
