@@ -92,6 +92,10 @@ good-root : {t : List ℕ} {f : Facts} → Sound t f → rootOk t (nodeCount t) 
 unfolding bad7
 good-root {t} s = and-left (rootOk t (nodeCount t)) (good7 t 0) (not-so _ (s .none7 0 (s .some-nodes)))
 
+-- a node's children fit its kind
+pub kids-fitting : {t : List ℕ} {f : Facts} → Sound t f → (p : ℕ) → p < nodeCount t → T (kids-fit (kindAt t p) (forestOf t (p + 1) (p + sizeAt t p)))
+kids-fitting {t} {f} s p l = rw (kids-same (whole-part t f s) l, good-kids s p l) tt
+
 -- every part of a valid file fits
 part-fits : {t : List ℕ} {f : Facts} → Sound t f → {i e : ℕ} → Part t i e → e ≤ nodeCount t → fitting (forestOf t i e) ≡ true
 unfolding fitting headAt

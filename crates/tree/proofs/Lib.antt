@@ -16,3 +16,4 @@ pub mod Rows
 pub mod Fits
 pub mod Find
 pub mod Shape
+pub mod Roles

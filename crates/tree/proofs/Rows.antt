@@ -50,6 +50,18 @@ module _ {t : List ℕ} {n p : ℕ} (w : Part t 0 n) (l : p < n) where
   pub part-sized : Sized t (p + sizeAt t p)
   part-sized j h = w .some j (omega arith) (omega (arith, w .ends p (omega arith) l))
 
+  -- from a child on, p's children are a part
+  pub row-part : {c : ℕ} → Row t p c → Part t c (p + sizeAt t p)
+  row-part row =
+      let e = w .ends p (omega arith) l in
+      let a = row .after in
+      record {
+        few = omega (arith, w .few);
+        some = λ j b. part-sized j;
+        ends = λ j b h. w .nest p j (omega arith) l (omega arith) h;
+        nest = λ j k b h. w .nest j k (omega arith) (omega arith);
+      }
+
   -- the next child, or the end
   pub row-next : {c : ℕ} → Row t p c → c < p + sizeAt t p → Row t p (c + sizeAt t c)
   row-next {c} row lt =
