@@ -17,3 +17,4 @@ pub mod Fits
 pub mod Find
 pub mod Shape
 pub mod Roles
+pub mod Entries
