@@ -1,22 +1,21 @@
 -- What each node of a valid file says of itself: its kind, span and value number. Assumes nothing.
-use Prim.Native.Nat.{ℕ, zero, suc, _+_, _*_, _≤_, _<_}
+use Prim.Native.Nat.{ℕ, zero, suc, _+_, _-_, _≤_, _<_}
 use native.Mathlib.Omega.{arith}
 use native.Mathlib.Decide.{decLt}
 use mathlib.Core.Path.{_≡_, refl}
 use mathlib.Core.List.{List}
-use mathlib.Core.Bool.{Bool, true, false, _&&_, _||_, not}
+use mathlib.Core.Bool.{Bool, true, false, _&&_, not}
 use lib.Dec.{T, leb, ltb, eqb, leb→le, ltb→lt, eqb→eq}
 use lib.ListN.{length}
-use borrow.Author.Tests.{eq-eqb, ne-eqb}
+use borrow.Author.Tests.{leb-false, lt-ltb, eq-eqb, ne-eqb}
 use Rattle.tree.specs.Bytes.{pick, nodeAt, nodeCount, valueCount, globalCount, kindAt, sizeAt, beginAt, endAt, lastAt, valueAt}
-use Rattle.tree.specs.Search.{lowest}
-use Rattle.tree.specs.Values.{offset, isName, isLiteral}
+use Rattle.tree.specs.Values.{offset, isName, isLiteral, globalAt, bad9}
 use Rattle.tree.specs.Nodes.{limitOf, known, named, valueFits, good6, bad6}
-use Rattle.tree.specs.Judge.{namesOf, notName}
+use Rattle.tree.specs.Judge.{listed, namesOf, notName}
 use Rattle.tree.specs.Sound.{Sound}
 use Rattle.tree.specs.declared.Facts.{Facts}
 use Rattle.tree.proofs.Search.{clash, lowest-clear, lowest-le, not-so}
-use Rattle.tree.proofs.Names.{name-test, literal-low}
+use Rattle.tree.proofs.Names.{or-left, or-right, name-test, literal-low}
 use Rattle.tree.proofs.Shape.{left, right}
 
 offset-from : (t : List ℕ) (n i : ℕ) → nodeAt n ≤ offset t n i
@@ -96,3 +95,15 @@ module _ {t : List ℕ} {f : Facts} (s : Sound t f) {i : ℕ} (h : i < nodeCount
   pub value-none : T (not (named (kindAt t i))) → (kindAt t i ≡ 21 → ⊥) → valueAt t i ≡ 65535
   unfolding valueFits
   value-none v q = eqb→eq (valueAt t i) 65535 (fits-none (eqb (kindAt t i) 21) (named (kindAt t i)) _ _ (eqb (valueAt t i) 65535) (ne-eqb (kindAt t i) 21 q) v fits)
+
+-- a global is a name of the table, above the one before it
+module _ {t : List ℕ} {f : Facts} (s : Sound t f) {i : ℕ} (h : i < listed (globalCount t)) where
+  pub global-name : T (isName t (nodeCount t) (valueCount t) (globalAt t (nodeCount t) (valueCount t) i))
+  unfolding bad9
+  global-name = rw (not-so (isName t (nodeCount t) (valueCount t) (globalAt t (nodeCount t) (valueCount t) i)) (or-left (not (isName t (nodeCount t) (valueCount t) (globalAt t (nodeCount t) (valueCount t) i))) _ (s .none9 i h))) tt
+
+  pub global-rises : 0 < i → globalAt t (nodeCount t) (valueCount t) (i - 1) < globalAt t (nodeCount t) (valueCount t) i
+  unfolding bad9
+  global-rises z =
+      let e = or-right (not (isName t (nodeCount t) (valueCount t) (globalAt t (nodeCount t) (valueCount t) i))) _ (s .none9 i h) in
+      leb-false _ _ (simp (lt-ltb 0 i z) at e)

@@ -2,14 +2,16 @@
 use Prim.Native.Nat.{ℕ, zero, suc, _+_, _-_, _≤_, _<_}
 use native.Mathlib.Omega.{arith}
 use native.Mathlib.Decide.{decLt, ℕ-discrete}
-use mathlib.Core.Path.{_≡_, refl, sym, ap, _∙_}
+use mathlib.Core.Path.{_≡_, refl, sym, _∙_}
 use mathlib.Core.List.{List}
+use lib.Dec.{T, eqb, eqb→eq}
 use borrow.Author.Tests.{lt-ltb, le-ltb, eq-eqb, ne-eqb}
 use Rattle.tree.specs.Bytes.{roleAt, sizeAt}
-use Rattle.tree.specs.Forest.{Forest, none, node, headAt, forestOf, Part}
-use Rattle.tree.specs.Shape.{many}
+use Rattle.tree.specs.Forest.{none, node, headAt, forestOf, Part}
+use Rattle.tree.specs.Shape.{many, in-pairs}
 use Rattle.tree.specs.Find.{childIn, childOf, from-role}
-use Rattle.tree.proofs.Laws.{sized, ended, rest, forest-none, forest-node, induct}
+use Rattle.tree.proofs.Shape.{left, right}
+use Rattle.tree.proofs.Laws.{later, sized, ended, rest, forest-none, forest-node, induct}
 
 in-end : (k : ℕ) (t : List ℕ) (r i e : ℕ) → e ≤ i → childIn k t r i e ≡ e
 unfolding childIn
@@ -93,14 +95,7 @@ child-role {t} p r = seek r (λ i e. childOf t r i e < e → roleAt t (childOf t
 
 -- from it on, the siblings are a part
 pub child-part : {t : List ℕ} {i e : ℕ} → Part t i e → (r : ℕ) → i ≤ e → Part t (childOf t r i e) e
-child-part p r l =
-    let g = child-ge p r l in
-    record {
-      few = p .few;
-      some = λ j a. p .some j (omega arith);
-      ends = λ j a. p .ends j (omega arith);
-      nest = λ j k a. p .nest j k (omega arith);
-    }
+child-part p r l = later p (child-ge p r l)
 
 -- the link to the forest: its siblings from the first of role r on are those from childOf on
 pub child-forest : {t : List ℕ} {i e : ℕ} → Part t i e → (r : ℕ) → from-role r (forestOf t i e) ≡ forestOf t (childOf t r i e) e
@@ -121,8 +116,8 @@ child-forest {t} p r = seek r (λ i e. from-role r (forestOf t i e) ≡ forestOf
 pub child-node : {t : List ℕ} {i e : ℕ} → Part t i e → (r : ℕ) → i ≤ e → childOf t r i e < e
     → from-role r (forestOf t i e)
     ≡ node (headAt t (childOf t r i e))
-      (forestOf t (childOf t r i e + 1) (childOf t r i e + sizeAt t (childOf t r i e)))
-      (forestOf t (childOf t r i e + sizeAt t (childOf t r i e)) e)
+    (forestOf t (childOf t r i e + 1) (childOf t r i e + sizeAt t (childOf t r i e)))
+    (forestOf t (childOf t r i e + sizeAt t (childOf t r i e)) e)
 child-node p r l lt = child-forest p r ∙ forest-node (child-part p r l) lt
 
 pub child-none : {t : List ℕ} {i e : ℕ} → Part t i e → (r : ℕ) → e ≤ childOf t r i e → from-role r (forestOf t i e) ≡ none
@@ -156,3 +151,12 @@ child-there {t} p r =
     (λ i e h l. absurd (omega (arith, many-end t i e r h)))
     (λ i e p lt q l. omega (arith, child-here t r i e lt q))
     (λ i e p lt q ih l. rw (child-next p lt r q) (ih (omega (arith, many-next p lt r q)))) p
+
+-- in a dict, node i has the role whose turn it is, and the other role's turn comes
+pub pair-here : {t : List ℕ} {i e : ℕ} → Part t i e → i < e → (w : ℕ) → T (in-pairs w (forestOf t i e)) → roleAt t i ≡ w
+unfolding in-pairs headAt
+pair-here {t} {i} p lt w v = eqb→eq (roleAt t i) w (left (eqb (roleAt t i) w) _ (rw (forest-node p lt) at v))
+
+pub pair-next : {t : List ℕ} {i e : ℕ} → Part t i e → i < e → (w : ℕ) → T (in-pairs w (forestOf t i e)) → T (in-pairs (12 - w) (forestOf t (i + sizeAt t i) e))
+unfolding in-pairs headAt
+pair-next {t} {i} p lt w v = right (eqb (roleAt t i) w) _ (rw (forest-node p lt) at v)

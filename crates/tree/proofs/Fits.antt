@@ -1,27 +1,31 @@
 -- The children of a node, by number and in the forest, are the same: so a valid file's tree is valid. Assumes nothing.
 use Prim.Native.Nat.{ℕ, zero, suc, _+_, _-_, _≤_, _<_}
 use native.Mathlib.Omega.{arith}
+use native.Mathlib.Decide.{decLt}
 use mathlib.Core.Path.{_≡_, refl, sym, ap, _∙_}
 use mathlib.Core.List.{[], List, _∷_}
-use mathlib.Core.Bool.{Bool, true, false, _&&_}
-use lib.Dec.{T, leb, eqb}
-use borrow.Author.Tests.{ltb-false}
+use mathlib.Core.Bool.{Bool, true, false}
+use lib.Dec.{T, eqb}
+use borrow.Author.Tests.{ltb-false, eq-eqb}
 use Rattle.tree.specs.Bytes.{pick, nodeCount, sizeAt, kindAt, roleAt}
 use Rattle.tree.specs.Nodes.{depthOf, bad8}
-use Rattle.tree.specs.Children.{classOf, inClass, slotOf, Sized, kidsFrom, kidsOf, allStand, ofRole, allFilled, paired, forFirst, inOrder, good7, rootOk, bad7}
+use Rattle.tree.specs.Children.{Sized, kidsFrom, kidsOf, allStand, ofRole, allFilled, paired, forFirst, inOrder, good7, rootOk, bad7}
 use Rattle.tree.specs.Forest.{Forest, none, node, headAt, forestOf, treeOf, Part}
 use Rattle.tree.specs.Shape.{count, height, all-stand, many, all-filled, in-pairs, for-first, in-order, kids-fit, fitting, root-fits, valid}
-use Rattle.tree.specs.Sound.{Sound, Row}
+use Rattle.tree.specs.Sound.{Sound}
+use Rattle.tree.specs.Find.{Row}
 use Rattle.tree.specs.Judge.{judged}
 use Rattle.tree.specs.declared.Facts.{Facts}
 use Rattle.tree.specs.declared.Judged.the-variants.{Valid}
 use Rattle.tree.proofs.Search.{not-so}
 use Rattle.tree.proofs.Names.{and-left, and-right}
 use Rattle.tree.proofs.Above.{depth-zero}
+use Rattle.tree.proofs.Six.{seven}
 use Rattle.tree.proofs.Kids.{kids-end, kids-next}
-use Rattle.tree.proofs.Laws.{sized, ended, kids, forest-none, forest-node, induct, count-of}
+use Rattle.tree.proofs.Laws.{later, sized, ended, kids, forest-none, forest-node, induct, count-of}
 use Rattle.tree.proofs.Rows.{part-sized, row-first, row-next, row-depth}
 use Rattle.tree.proofs.Whole.{sound, whole-part}
+use Rattle.tree.proofs.Shape.{truth, valid-root, valid-fits, fits-here, fits-kids, fits-rest}
 
 -- node numbers, and a forest whose topmost nodes they are
 data Lists (t : List ℕ) : List ℕ → Forest → Type 0 where
@@ -67,20 +71,11 @@ order-same : (k : ℕ) {t : List ℕ} {cs : List ℕ} {f : Forest} → Lists t c
 unfolding in-order inOrder
 order-same k l = rw (pairs-same 8 l, for-same l)
 
-sub-part : {t : List ℕ} {n p : ℕ} → Part t 0 n → p < n → Part t p n
-sub-part w h =
-    record {
-      few = w .few;
-      some = λ j a. w .some j (omega arith);
-      ends = λ j a. w .ends j (omega arith);
-      nest = λ j k a. w .nest j k (omega arith);
-    }
-
 -- the forest below node p fits its kind exactly where 7 does not refuse p's children
-kids-same : {t : List ℕ} {n p : ℕ} → Part t 0 n → p < n → kids-fit (kindAt t p) (forestOf t (p + 1) (p + sizeAt t p)) ≡ good7 t p
+pub kids-same : {t : List ℕ} {n p : ℕ} → Part t 0 n → p < n → kids-fit (kindAt t p) (forestOf t (p + 1) (p + sizeAt t p)) ≡ good7 t p
 unfolding kids-fit good7 kidsOf
 kids-same {t} {n} {p} w h =
-    let l = lists (part-sized w h) (kids (sub-part w h) h) in
+    let l = lists (part-sized w h) (kids (later w (omega arith)) h) in
     rw (stand-same (kindAt t p) l, filled-same 9 (kindAt t p) l, order-same (kindAt t p) l)
 
 -- no node is refused by 7
@@ -96,10 +91,9 @@ good-root {t} s = and-left (rootOk t (nodeCount t)) (good7 t 0) (not-so _ (s .no
 pub kids-fitting : {t : List ℕ} {f : Facts} → Sound t f → (p : ℕ) → p < nodeCount t → T (kids-fit (kindAt t p) (forestOf t (p + 1) (p + sizeAt t p)))
 kids-fitting {t} {f} s p l = rw (kids-same (whole-part t f s) l, good-kids s p l) tt
 
--- every part of a valid file fits
-part-fits : {t : List ℕ} {f : Facts} → Sound t f → {i e : ℕ} → Part t i e → e ≤ nodeCount t → fitting (forestOf t i e) ≡ true
+part-same : {t : List ℕ} {f : Facts} → Sound t f → {i e : ℕ} → Part t i e → e ≤ nodeCount t → fitting (forestOf t i e) ≡ true
 unfolding fitting headAt
-part-fits {t} {f} s p le = induct (λ i e. e ≤ nodeCount t → fitting (forestOf t i e) ≡ true) t nothing more p le
+part-same {t} {f} s p le = induct (λ i e. e ≤ nodeCount t → fitting (forestOf t i e) ≡ true) t nothing more p le
   where
     nothing : (i e : ℕ) → e ≤ i → e ≤ nodeCount t → fitting (forestOf t i e) ≡ true
     nothing i e h le = rw (forest-none t i e h)
@@ -112,9 +106,13 @@ part-fits {t} {f} s p le = induct (λ i e. e ≤ nodeCount t → fitting (forest
         rw (forest-node p lt)
         (rw (kids-same w l ∙ good-kids s i l, a (omega (arith, ended p lt)), b le))
 
+-- every part of a valid file fits
+pub part-fits : {t : List ℕ} {f : Facts} → Sound t f → {i e : ℕ} → Part t i e → e ≤ nodeCount t → T (fitting (forestOf t i e))
+part-fits s p le = rw (part-same s p le) tt
+
 tree-fits : {t : List ℕ} {f : Facts} → Sound t f → fitting (treeOf t) ≡ true
 unfolding treeOf
-tree-fits {t} {f} s = part-fits s (whole-part t f s) (omega arith)
+tree-fits {t} {f} s = part-same s (whole-part t f s) (omega arith)
 
 -- the tree of a valid file: its root, and what is below
 pub tree-node : {t : List ℕ} {f : Facts} → Sound t f → treeOf t ≡ node (headAt t 0) (forestOf t 1 (nodeCount t)) none
@@ -134,6 +132,32 @@ root-same {t} s = rw (tree-node s) (and-right (eqb (sizeAt t 0) (nodeCount t)) _
 pub tree-valid : (t : List ℕ) (f : Facts) → judged t ≡ Valid f → T (valid (treeOf t))
 unfolding valid
 tree-valid t f e = let s = sound t f e in rw (root-same s, tree-fits s) tt
+
+-- and the other way: where the tree is valid, 7 refuses no node
+fits-good : {t : List ℕ} {n : ℕ} → Part t 0 n → {i e : ℕ} → Part t i e → e ≤ n → T (fitting (forestOf t i e)) → (j : ℕ) → i ≤ j → j < e → good7 t j ≡ true
+unfolding headAt
+fits-good {t} {n} w p = induct (λ i e. e ≤ n → T (fitting (forestOf t i e)) → (j : ℕ) → i ≤ j → j < e → good7 t j ≡ true) t (λ i e h le v j a b. absurd (omega arith)) more p
+  where
+    more : (i e : ℕ) → Part t i e → i < e
+        → (i + sizeAt t i ≤ n → T (fitting (forestOf t (i + 1) (i + sizeAt t i))) → (j : ℕ) → i + 1 ≤ j → j < i + sizeAt t i → good7 t j ≡ true)
+        → (e ≤ n → T (fitting (forestOf t (i + sizeAt t i) e)) → (j : ℕ) → i + sizeAt t i ≤ j → j < e → good7 t j ≡ true)
+        → e ≤ n → T (fitting (forestOf t i e)) → (j : ℕ) → i ≤ j → j < e → good7 t j ≡ true
+    more i e p lt f g le v j a b = go (decLt i j) (decLt j (i + sizeAt t i)) (rw (forest-node p lt) at v)
+      where
+        go : Dec (i < j) → Dec (j < i + sizeAt t i) → T (fitting (node (headAt t i) (forestOf t (i + 1) (i + sizeAt t i)) (forestOf t (i + sizeAt t i) e))) → good7 t j ≡ true
+        go (no x) y v =
+            let q : j ≡ i = omega arith in
+            rw q (sym (kids-same w (omega arith)) ∙ truth _ (fits-here (headAt t i) (forestOf t (i + 1) (i + sizeAt t i)) _ v))
+        go (yes x) (yes y) v = f (omega (arith, ended p lt)) (fits-kids (headAt t i) _ _ v) j (omega arith) y
+        go (yes x) (no y) v = g le (fits-rest (headAt t i) _ _ v) j (omega arith) b
+
+pub valid-seven : {t : List ℕ} {n : ℕ} → Part t 0 n → 1 ≤ n → sizeAt t 0 ≡ n → T (valid (forestOf t 0 n)) → (i : ℕ) → i < n → bad7 t n i ≡ false
+unfolding bad7 rootOk root-fits headAt
+valid-seven {t} {n} w some e v i h =
+    let q : 0 + sizeAt t 0 ≡ n = omega arith in
+    let r = rw (forest-node w some, q, forest-none t n n (omega arith)) at (valid-root (forestOf t 0 n) v) in
+    let k : rootOk t n ≡ true = simp (eq-eqb (sizeAt t 0) n e) (truth _ r) in
+    rw (seven t n i k, fits-good w w (omega arith) (valid-fits (forestOf t 0 n) v) i (omega arith) h)
 
 pub tree-count : (t : List ℕ) (f : Facts) → judged t ≡ Valid f → count (treeOf t) ≡ f .nodes
 unfolding treeOf

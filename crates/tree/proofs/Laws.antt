@@ -2,12 +2,22 @@
 use Prim.Native.Nat.{ℕ, zero, suc, _+_, _-_, _≤_, _<_}
 use native.Mathlib.Omega.{arith}
 use native.Mathlib.Decide.{decLt}
-use mathlib.Core.Path.{_≡_, refl, sym, ap₂, _∙_}
+use mathlib.Core.Path.{_≡_, refl, sym, ap, ap₂, _∙_}
 use mathlib.Core.List.{List}
 use borrow.Author.Tests.{lt-ltb, le-ltb}
 use Rattle.tree.specs.Bytes.{sizeAt}
 use Rattle.tree.specs.Forest.{Forest, none, node, headAt, forestIn, forestOf, Part}
 use Rattle.tree.specs.Shape.{count}
+
+-- from any later node on
+pub later : {t : List ℕ} {i e : ℕ} → Part t i e → {j : ℕ} → i ≤ j → Part t j e
+later p a =
+    record {
+      few = p .few;
+      some = λ j b. p .some j (omega arith);
+      ends = λ j b. p .ends j (omega arith);
+      nest = λ j k b. p .nest j k (omega arith);
+    }
 
 module _ {t : List ℕ} {i e : ℕ} (p : Part t i e) (lt : i < e) where
   -- node i has a size, and ends within the part
@@ -44,13 +54,7 @@ module _ {t : List ℕ} {i e : ℕ} (p : Part t i e) (lt : i < e) where
 
   -- the part after node i and what is below it
   pub rest : Part t (i + sizeAt t i) e
-  rest =
-      record {
-        few = p .few;
-        some = λ j a. p .some j (omega arith);
-        ends = λ j a. p .ends j (omega arith);
-        nest = λ j k a. p .nest j k (omega arith);
-      }
+  rest = later p (omega arith)
 
 -- one step with fuel left, from what the two calls below it are
 step : (t : List ℕ) (i e k : ℕ) {a b : Forest} → i < e
@@ -91,6 +95,12 @@ forest-node {t} {i} {e} p lt =
     let n = ended p lt in
     enough (e - i) (suc (e - i)) p (omega arith) (omega arith)
     ∙ step t i e (e - i) lt (enough _ _ (kids p lt) (omega arith) (omega arith)) (enough _ _ (rest p lt) (omega arith) (omega arith))
+
+-- one node with what is below it
+pub forest-one : {t : List ℕ} {i e : ℕ} → Part t i e → i < e → forestOf t i (i + sizeAt t i) ≡ node (headAt t i) (forestOf t (i + 1) (i + sizeAt t i)) none
+forest-one {t} {i} p lt =
+    forest-node (first p lt) (omega (arith, sized p lt))
+    ∙ ap (node (headAt t i) (forestOf t (i + 1) (i + sizeAt t i))) (forest-none t (i + sizeAt t i) (i + sizeAt t i) (omega arith))
 
 -- What holds of nothing, and of a part where it holds below its first node and of what follows, holds of every part.
 pub induct : (Q : ℕ → ℕ → Type 0) (t : List ℕ)

@@ -11,10 +11,10 @@ pub mod Limits
 pub mod Above
 pub mod Kids
 pub mod Laws
-pub mod Whole
 pub mod Rows
-pub mod Fits
-pub mod Find
+pub mod Whole
 pub mod Shape
+pub mod Find
+pub mod Fits
 pub mod Roles
 pub mod Entries

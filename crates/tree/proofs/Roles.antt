@@ -1,22 +1,22 @@
 -- The children of a node of a valid file, by role: one statement for all kinds, through the slot of kind and role. Assumes nothing.
-use Prim.Native.Nat.{ℕ, zero, suc, _+_, _-_, _≤_, _<_}
+use Prim.Native.Nat.{ℕ, suc, _+_, _-_, _≤_, _<_}
 use native.Mathlib.Omega.{arith}
 use native.Mathlib.Decide.{decLt, ℕ-discrete}
 use mathlib.Core.Path.{_≡_, refl, sym, ap, _∙_}
 use mathlib.Core.List.{List}
 use mathlib.Core.Logic.{_⊎_, inl, inr}
-use lib.Dec.{T, eqb→eq}
+use lib.Dec.{T}
 use Rattle.tree.specs.Bytes.{nodeCount, sizeAt, kindAt, roleAt}
 use Rattle.tree.specs.Children.{inClass, Slot, slotOf}
 use Rattle.tree.specs.Forest.{headAt, forestOf, Part}
-use Rattle.tree.specs.Shape.{all-stand, many, in-pairs, for-first, kids-fit}
-use Rattle.tree.specs.Find.{childOf, kidOf, from-role}
-use Rattle.tree.specs.Sound.{Sound, Row}
+use Rattle.tree.specs.Shape.{all-stand, many, in-pairs, for-first}
+use Rattle.tree.specs.Find.{Row, childOf, kidOf}
+use Rattle.tree.specs.Sound.{Sound}
 use Rattle.tree.specs.declared.Facts.{Facts}
 use Rattle.tree.proofs.Slots.{far-role}
 use Rattle.tree.proofs.Laws.{forest-node}
-use Rattle.tree.proofs.Rows.{part-sized, row-first, row-part, row-next, row-walk}
-use Rattle.tree.proofs.Find.{child-end, child-here, child-next, child-le, child-role, child-node, child-there, child-many, seek, many-here, many-next, many-end}
+use Rattle.tree.proofs.Rows.{row-first, row-part, row-next, row-walk}
+use Rattle.tree.proofs.Find.{child-end, child-here, child-next, child-role, child-node, child-there, child-many, seek, many-here, many-next}
 use Rattle.tree.proofs.Shape.{fit-stand, fit-many, fit-pairs, fit-clauses, fit-dict-clauses, stand-here, stand-rest, first-for, class-range}
 use Rattle.tree.proofs.Whole.{whole-part}
 use Rattle.tree.proofs.Fits.{kids-fitting}

@@ -2,14 +2,15 @@
 use Prim.Native.Nat.{ℕ, zero, suc, _+_, _-_, _≤_, _<_}
 use native.Mathlib.Omega.{arith}
 use native.Mathlib.Decide.{decLt}
-use mathlib.Core.Path.{_≡_, refl}
+use mathlib.Core.Path.{_≡_}
 use mathlib.Core.List.{List}
 use borrow.Author.Tests.{lt-ltb, le-ltb}
 use Rattle.tree.specs.Bytes.{sizeAt}
 use Rattle.tree.specs.Nodes.{parentIn, parentOf, depthOf}
 use Rattle.tree.specs.Children.{Sized}
 use Rattle.tree.specs.Forest.{Part}
-use Rattle.tree.specs.Sound.{Row}
+use Rattle.tree.specs.Find.{Row}
+use Rattle.tree.proofs.Laws.{later, kids}
 use Rattle.tree.proofs.Above.{parent-below, parent-above, depth-next}
 
 -- where a node stands in another, it stands in its parent
@@ -52,15 +53,7 @@ module _ {t : List ℕ} {n p : ℕ} (w : Part t 0 n) (l : p < n) where
 
   -- from a child on, p's children are a part
   pub row-part : {c : ℕ} → Row t p c → Part t c (p + sizeAt t p)
-  row-part row =
-      let e = w .ends p (omega arith) l in
-      let a = row .after in
-      record {
-        few = omega (arith, w .few);
-        some = λ j b. part-sized j;
-        ends = λ j b h. w .nest p j (omega arith) l (omega arith) h;
-        nest = λ j k b h. w .nest j k (omega arith) (omega arith);
-      }
+  row-part row = let a = row .after in later (kids (later w (omega arith)) l) (omega arith)
 
   -- the next child, or the end
   pub row-next : {c : ℕ} → Row t p c → c < p + sizeAt t p → Row t p (c + sizeAt t c)

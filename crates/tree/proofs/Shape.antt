@@ -1,19 +1,18 @@
 -- What a valid tree gives at each node, and what the table of slots gives for every kind and role. Assumes nothing.
-use Prim.Native.Nat.{ℕ, zero, suc, _+_, _-_, _≤_, _<_}
+use Prim.Native.Nat.{ℕ, zero, suc, _-_, _≤_, _<_}
 use native.Mathlib.Omega.{arith}
 use native.Mathlib.Decide.{decLt, ℕ-discrete}
-use mathlib.Core.Path.{_≡_, refl, sym, ap, subst, _∙_}
+use mathlib.Core.Path.{_≡_, refl, sym, ap, _∙_}
 use mathlib.Core.List.{[], List, _∷_}
 use mathlib.Core.Bool.{Bool, true, false, _&&_, _||_}
 use lib.Dec.{T, leb, eqb, leb→le, eqb→eq}
-use borrow.Author.Tests.{le-leb, lt-leb, eq-eqb, ne-eqb, eqb-true}
+use borrow.Author.Tests.{le-leb, lt-leb, eq-eqb, ne-eqb}
 use Rattle.tree.specs.Bytes.{pick}
 use Rattle.tree.specs.Nodes.{known}
 use Rattle.tree.specs.Children.{classOf, inClass, Slot, slot, slots, slotsOf, slotIn, slotOf}
 use Rattle.tree.specs.Forest.{Head, Forest, none, node}
 use Rattle.tree.specs.Shape.{all-stand, many, all-filled, in-pairs, for-first, in-order, kids-fit, fitting, root-fits, valid}
 use Rattle.tree.specs.Find.{from-role}
-use Rattle.tree.proofs.Slots.{far-role}
 
 pub both : (a b : Bool) → T a → T b → T (a && b)
 both true b s t = t
@@ -26,6 +25,10 @@ left false b t = absurd t
 pub right : (a b : Bool) → T (a && b) → T b
 right true b t = t
 right false b t = absurd t
+
+pub truth : (b : Bool) → T b → b ≡ true
+truth true t = refl
+truth false t = absurd t
 
 pub valid-root : (f : Forest) → T (valid f) → T (root-fits f)
 unfolding valid
@@ -157,6 +160,18 @@ in-rows q k r (e ∷ es) v d = go (ℕ-discrete k (e .0)) (in-rows q k r es (rig
 pub slot-so : (q : ℕ → Slot → Bool) → T (rows q slots) → (k r : ℕ) → T (q k (slot 9 r 0 0)) → T (q k (slotOf k r))
 unfolding slotOf
 slot-so q v k r d = in-rows q k r slots v d
+
+pub slot-role : (k r : ℕ) → slotOf k r .role ≡ r
+unfolding slotOf
+slot-role k r = go (slotsOf k slots)
+  where
+    on : (s : Slot) (x : Slot) → x .role ≡ r → Dec (r ≡ s .role) → pick (eqb r (s .role)) s x .role ≡ r
+    on s x e (yes q) = rw (eq-eqb r (s .role) q) (sym q)
+    on s x e (no q) = rw (ne-eqb r (s .role) q) e
+
+    go : (ss : List Slot) → slotIn r ss .role ≡ r
+    go [] = refl
+    go (s ∷ ss) = on s (slotIn r ss) (go ss) (ℕ-discrete r (s .role))
 
 -- the kinds of a class, as a range
 abbrev pub kinds : ℕ → ℕ → Bool

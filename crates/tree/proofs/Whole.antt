@@ -1,20 +1,20 @@
 -- A file that is judged valid: its record of facts, and its tree. Assumes nothing.
-use Prim.Native.Nat.{ℕ, zero, suc, _+_, _*_, _-_, _≤_, _<_}
+use Prim.Native.Nat.{ℕ, _+_, _*_, _-_, _≤_, _<_}
 use native.Mathlib.Omega.{arith}
-use mathlib.Core.Path.{_≡_, refl, sym, ap, _∙_}
+use mathlib.Core.Path.{_≡_, refl, ap}
 use mathlib.Core.List.{List}
-use mathlib.Core.Bool.{Bool, true, false, _&&_, _||_, not}
+use mathlib.Core.Bool.{Bool, true, false, _||_}
 use mathlib.Core.Logic.{_⊎_, inl, inr}
 use lib.Dec.{leb, ltb, eqb}
 use lib.ListN.{length}
 use borrow.Author.Tests.{ltb-false, leb-true, eqb-true}
-use Rattle.tree.specs.Bytes.{pick, u16At, nodeCount, valueCount, globalCount, sizeAt, kindAt, roleAt}
+use Rattle.tree.specs.Bytes.{pick, u16At, nodeCount, valueCount, globalCount, sizeAt}
 use Rattle.tree.specs.Search.{lowest}
 use Rattle.tree.specs.Values.{offset, bad5, bad9}
 use Rattle.tree.specs.Nodes.{bad6, bad8}
-use Rattle.tree.specs.Children.{classOf, bad7, good7, rootOk}
-use Rattle.tree.specs.Judge.{refuseAt, marked, listed, limits, None5, None6, namesOf, factsOf, judged, judged3, judged4, judged5, judged6, judged7, judged8, judged9}
-use Rattle.tree.specs.Forest.{Forest, none, node, forestOf, treeOf, Part}
+use Rattle.tree.specs.Children.{bad7, good7, rootOk}
+use Rattle.tree.specs.Judge.{refuseAt, marked, listed, limits, factsOf, judged, judged3, judged4, judged5, judged6, judged7, judged8, judged9}
+use Rattle.tree.specs.Forest.{Part}
 use Rattle.tree.specs.Sound.{Sound}
 use Rattle.tree.specs.declared.Facts.{Facts}
 use Rattle.tree.specs.declared.Refusal.{Refusal}

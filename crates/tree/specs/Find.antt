@@ -1,5 +1,5 @@
--- The first of some siblings that has a role, by number and in the forest. Assumes nothing.
-use Prim.Native.Nat.{ℕ, zero, suc, _+_, _-_}
+-- The children of a node by number, and the first of some siblings that has a role. Assumes nothing.
+use Prim.Native.Nat.{ℕ, zero, suc, _+_, _-_, _≤_, _<_}
 use mathlib.Core.List.{List}
 use mathlib.Core.Bool.{true, false}
 use lib.Dec.{ltb, eqb}
@@ -27,3 +27,9 @@ kidOf t r p = childOf t r (p + 1) (p + sizeAt t p)
 unfoldable pub from-role : ℕ → Forest → Forest
 from-role r none = none
 from-role r (node h kids rest) = elim (eqb r (h .role)) [ true ↦ node h kids rest | false ↦ from-role r rest ]
+
+-- A child of node p starts at c, or c is p's end: nothing between p and c reaches past c.
+pub record Row (t : List ℕ) (p c : ℕ) : Type 0 where
+  pub after : p < c
+  pub within : c ≤ p + sizeAt t p
+  pub clear : (m : ℕ) → p < m → m < c → m + sizeAt t m ≤ c

@@ -1,4 +1,4 @@
--- What the judgement says of a valid file, in one record; and where the children of a node stand. Assumes nothing.
+-- What the judgement says of a valid file, in one record. Assumes nothing.
 use Prim.Native.Nat.{ℕ, _+_, _*_, _≤_, _<_}
 use mathlib.Core.Path.{_≡_}
 use mathlib.Core.List.{List}
@@ -34,9 +34,3 @@ pub record Sound (t : List ℕ) (f : Facts) : Type 0 where
   pub none8 : (i : ℕ) → i < nodeCount t → bad8 t i ≡ false
   pub none9 : (i : ℕ) → i < listed (globalCount t) → bad9 t (nodeCount t) (valueCount t) i ≡ false
   pub root : sizeAt t 0 ≡ nodeCount t
-
--- A child of node p starts at c, or c is p's end: nothing between p and c reaches past c.
-pub record Row (t : List ℕ) (p c : ℕ) : Type 0 where
-  pub after : p < c
-  pub within : c ≤ p + sizeAt t p
-  pub clear : (m : ℕ) → p < m → m < c → m + sizeAt t m ≤ c
