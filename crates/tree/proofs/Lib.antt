@@ -14,6 +14,7 @@ pub mod Laws
 pub mod Rows
 pub mod Whole
 pub mod Shape
+pub mod Classes
 pub mod Find
 pub mod Fits
 pub mod Roles

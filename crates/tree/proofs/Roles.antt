@@ -17,7 +17,8 @@ use Rattle.tree.proofs.Slots.{far-role}
 use Rattle.tree.proofs.Laws.{forest-node}
 use Rattle.tree.proofs.Rows.{row-first, row-part, row-next, row-walk}
 use Rattle.tree.proofs.Find.{child-end, child-here, child-next, child-role, child-node, child-there, child-many, seek, many-here, many-next}
-use Rattle.tree.proofs.Shape.{fit-stand, fit-many, fit-pairs, fit-clauses, fit-dict-clauses, stand-here, stand-rest, first-for, class-range}
+use Rattle.tree.proofs.Shape.{fit-stand, fit-many, fit-pairs, fit-clauses, fit-dict-clauses, stand-here, stand-rest, first-for}
+use Rattle.tree.proofs.Classes.{class-range}
 use Rattle.tree.proofs.Whole.{whole-part}
 use Rattle.tree.proofs.Fits.{kids-fitting}
 
