@@ -37,12 +37,12 @@ child-row {t} {n} {p} w l r row = seek r (λ i e. e ≡ p + sizeAt t p → Row t
     next i e part lt y ih q row = rw (child-next part lt r y) (ih q (row-next w l row (omega arith)))
 
 module _ {t : List ℕ} {f : Facts} (s : Sound t f) {p : ℕ} (l : p < nodeCount t) where
-  -- p's children are a part, and the first of them is where it begins
-  pub kids-part : Part t (p + 1) (p + sizeAt t p)
-  kids-part = row-part (whole-part t f s) l (row-first t p (whole-part t f s .some p (omega arith) l))
-
+  -- p's children begin behind it, and are a part
   pub kids-row : Row t p (p + 1)
   kids-row = row-first t p (whole-part t f s .some p (omega arith) l)
+
+  pub kids-part : Part t (p + 1) (p + sizeAt t p)
+  kids-part = row-part (whole-part t f s) l kids-row
 
   -- a child is itself a node of the file
   pub kid-below : {c : ℕ} → Row t p c → c < p + sizeAt t p → c < nodeCount t
