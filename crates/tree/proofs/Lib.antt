@@ -10,4 +10,14 @@ pub mod Six
 pub mod Limits
 pub mod Above
 pub mod Kids
+pub mod Laws
+pub mod Rows
+pub mod Whole
+pub mod Shape
+pub mod Classes
+pub mod Find
+pub mod Seek
+pub mod Fits
+pub mod Roles
+pub mod Entries
 pub mod Samples

@@ -4,9 +4,12 @@ pub mod Search
 pub mod Values
 pub mod Nodes
 pub mod Children
-pub mod Rows
+pub mod Packed
 pub mod Judge
 pub mod Forest
 pub mod Keys
 pub mod Table
+pub mod Shape
+pub mod Sound
+pub mod Find
 pub mod Samples

@@ -1,9 +1,10 @@
-// What children a node may have: refusal 7.
+// The children of a node: what they may be, refusal 7, and the first one of a role.
 ghost use mathlib.Core.Path.{_≡_};
 ghost use Prim.Native.Nat.{_+_, _<_, _≤_};
 ghost use Rattle.tree.specs.Bytes.{sizeAt};
 ghost use Rattle.tree.specs.Search.{lowest};
-ghost use Rattle.tree.specs.Rows.{digitOf};
+ghost use Rattle.tree.specs.Find.{childOf};
+ghost use Rattle.tree.specs.Packed.{digitOf};
 ghost use Rattle.tree.specs.Children.{classOf, inClass, slotOf, kidsFrom, allStand, ofRole, allFilled, paired, forFirst, inOrder, good7, rootOk, bad7, Sized};
 ghost use Rattle.tree.specs.Judge.{None6};
 use crate::bytes::kind_at;
@@ -11,7 +12,6 @@ use crate::bytes::role_at;
 use crate::bytes::size_at;
 use crate::bytes::widen;
 
-// 7.
 fn class_of(k: usize) -> usize
     ensures { λ r. ⌜ r ≡ classOf k ⌝ }
 {
@@ -293,4 +293,25 @@ pub(crate) fn first7(t: &[u8], n: usize, nv: usize) -> usize
         i += 1;
     }
     n
+}
+
+// The first of the siblings from node `from` up to `e` that has the role; `e` where there is none.
+pub fn child_of(t: &[u8], role: usize, from: usize, e: usize) -> usize
+    ensures { λ r. ⌜ r ≡ childOf (now (t .entry)) role from e ⌝ }
+{
+    let mut i = from;
+    while i < e {
+        if role_at(t, i) == role {
+            return i;
+        }
+        let size = size_at(t, i);
+        if size == 0 {
+            return e;
+        }
+        if e - i <= size {
+            return e;
+        }
+        i += size;
+    }
+    e
 }

@@ -14,7 +14,7 @@ use values::first9;
 use values::values_end;
 
 pub mod bytes;
-mod children;
+pub mod children;
 mod nodes;
 mod values;
 

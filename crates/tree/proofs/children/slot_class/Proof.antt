@@ -3,10 +3,6 @@ use mathlib.Core.Path.{_∙_}
 use Rattle.tree.proofs.Slots.{class-list, class-at}
 use Rattle.tree.proofs.children.slot_class.Statement.{statement}
 use Rattle.tree.proofs.children.slot_class.Tie as tie
-use Rattle.tree.proofs.children.slot_class.Reads as reads
-use Rattle.tree.proofs.children.slot_class.Lts as lts
-use Rattle.tree.proofs.bytes.widen.Reads as widen-reads
-use Rattle.tree.proofs.children.slot_number.Reads as slot-number-reads
 
 -- src/children.rt:136:19
 slot-number-requires : tie.Need-slot-number-requires

@@ -3,10 +3,6 @@ use mathlib.Core.Path.{_∙_}
 use Rattle.tree.proofs.Slots.{least-list, least-at}
 use Rattle.tree.proofs.children.slot_least.Statement.{statement}
 use Rattle.tree.proofs.children.slot_least.Tie as tie
-use Rattle.tree.proofs.children.slot_least.Reads as reads
-use Rattle.tree.proofs.children.slot_least.Lts as lts
-use Rattle.tree.proofs.bytes.widen.Reads as widen-reads
-use Rattle.tree.proofs.children.slot_number.Reads as slot-number-reads
 
 -- src/children.rt:142:17
 slot-number-requires : tie.Need-slot-number-requires

@@ -3,10 +3,6 @@ use mathlib.Core.Path.{_∙_}
 use Rattle.tree.proofs.Slots.{most-list, most-at}
 use Rattle.tree.proofs.children.slot_most.Statement.{statement}
 use Rattle.tree.proofs.children.slot_most.Tie as tie
-use Rattle.tree.proofs.children.slot_most.Reads as reads
-use Rattle.tree.proofs.children.slot_most.Lts as lts
-use Rattle.tree.proofs.bytes.widen.Reads as widen-reads
-use Rattle.tree.proofs.children.slot_number.Reads as slot-number-reads
 
 -- src/children.rt:148:16
 slot-number-requires : tie.Need-slot-number-requires

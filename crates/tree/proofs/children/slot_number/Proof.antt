@@ -1,12 +1,10 @@
 use borrow.Author.Needs.{needs}
 use native.Mathlib.Omega.{arith}
 use mathlib.Core.Path.{sym}
-use Rattle.tree.specs.Rows.{rows}
+use Rattle.tree.specs.Packed.{rows}
 use Rattle.tree.proofs.Slots.{digit-far, digit-past, digit-read, digit-small, power-list, power-some}
 use Rattle.tree.proofs.children.slot_number.Statement.{statement}
 use Rattle.tree.proofs.children.slot_number.Tie as tie
-use Rattle.tree.proofs.children.slot_number.Reads as reads
-use Rattle.tree.proofs.children.slot_number.Lts as lts
 
 -- src/children.rt:125:9
 returns : tie.Need-returns
