@@ -2,6 +2,7 @@
 pub mod Past
 pub mod Search
 pub mod ValueLaws
+pub mod Link
 pub mod Names
 pub mod Tables
 pub mod Table

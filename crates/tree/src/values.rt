@@ -2,7 +2,8 @@
 ghost use mathlib.Core.Path.{_≡_};
 ghost use Prim.Native.Nat.{_<_, _≤_};
 ghost use Rattle.tree.specs.Search.{lowest};
-ghost use Rattle.tree.specs.Values.{offset, formed, bytesLess, ordered, bad5, bad9, integerOk, floatOk};
+ghost use Rattle.tree.specs.Values.{offset, bad5, bad9};
+ghost use Rattle.tree.specs.Offsets.{formedAt, bytesLess, orderedAt, integerOk, floatOk};
 ghost use Rattle.tree.specs.Judge.{namesOf, None5};
 use crate::bytes::byte_at;
 use crate::bytes::u16_at;
@@ -41,7 +42,7 @@ fn float_ok(t: &[u8], o: usize) -> bool
 
 fn formed_at(t: &[u8], o: usize) -> bool
     requires { ⌜ o < 34000000 ⌝ }
-    ensures { λ r. ⌜ r ≡ formed (now (t .entry)) o ⌝ }
+    ensures { λ r. ⌜ r ≡ formedAt (now (t .entry)) o ⌝ }
 {
     let len = u16_at(t, o + 1);
     let kind = byte_at(t, o);
@@ -87,7 +88,7 @@ fn bytes_less(t: &[u8], k: usize, a: usize, b: usize) -> bool
 
 fn in_order(t: &[u8], a: usize, b: usize) -> bool
     requires { ⌜ (a < 34000000) × (b < 34000000) ⌝ }
-    ensures { λ r. ⌜ r ≡ ordered (now (t .entry)) a b ⌝ }
+    ensures { λ r. ⌜ r ≡ orderedAt (now (t .entry)) a b ⌝ }
 {
     let ka = byte_at(t, a);
     let kb = byte_at(t, b);
