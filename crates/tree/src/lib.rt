@@ -11,10 +11,12 @@ use nodes::parents;
 use values::count_names;
 use values::first5;
 use values::first9;
-use values::values_end;
+use values::offset_of;
 
 pub mod bytes;
 mod children;
+pub mod keys;
+pub mod lookup;
 mod nodes;
 mod values;
 
@@ -45,6 +47,12 @@ pub enum Judged {
     Refused(Refusal),
 }
 
+// Key equality. Ordinary: whole floats of i32 are integers. Strict: whole floats below 2^53 are.
+pub enum Mode {
+    Ordinary,
+    Strict,
+}
+
 fn refused(why: Refusal) -> Judged
     ensures { λ r. ⌜ r ≡ Judged.Refused why ⌝ }
 {
@@ -65,7 +73,7 @@ fn judge9(t: &[u8], n: usize, nv: usize, g: usize) -> Judged
     ensures { λ r. ⌜ r ≡ judged9 (now (t .entry)) n nv g ⌝ }
 {
     let names = count_names(t, n, nv);
-    let at = values_end(t, n, nv);
+    let at = offset_of(t, n, nv);
     let count = listed_of(g);
     let p = first9(t, n, nv, at, names, count);
     if p < count {
@@ -131,7 +139,7 @@ fn judge4(t: &[u8], n: usize, nv: usize, g: usize) -> Judged
     requires { ⌜ (n ≤ 1024) × (nv ≤ 512) × (listed g ≤ 512) × (1 ≤ n) ⌝ }
     ensures { λ r. ⌜ r ≡ judged4 (now (t .entry)) n nv g ⌝ }
 {
-    if values_end(t, n, nv) + 2 * listed_of(g) == t.len() {
+    if offset_of(t, n, nv) + 2 * listed_of(g) == t.len() {
         return judge5(t, n, nv, g);
     }
     refused(Refusal::Sections)
