@@ -8,6 +8,8 @@ pub mod KeyLaws
 pub mod WholeLaws
 pub mod KeyNumbers
 pub mod Names
+pub mod ValidTable
+pub mod KeyTable
 pub mod Tables
 pub mod Table
 pub mod Slots
