@@ -4,7 +4,7 @@ use native.Mathlib.Omega.{arith}
 use native.Mathlib.Decide.{decLt}
 use mathlib.Core.Path.{_≡_, refl, sym, ap, subst, _∙_}
 use mathlib.Core.List.{List}
-use mathlib.Core.Logic.{_⊎_, inl, inr}
+use mathlib.Core.Logic.{_↔_}
 use mathlib.Core.Bool.{Bool, true, false, cond, _&&_}
 use mathlib.Core.Option.{Option, none, some, Option·none-ne-some, Option·some-injective}
 use lib.Dec.{T, eqb, leb, ltb, eqb→eq, eqb-refl}
@@ -164,3 +164,9 @@ module _ (t : List ℕ) (f : Facts) (valid : judged t ≡ Valid f) (bytes : (k :
           joined : key-number m vs a ≡ key-number m vs b → T (same-key m (at vs a) (at vs b))
           joined q = same-trans m (at vs a) (at vs (key-number m vs a)) (at vs b) (stands a)
               (rw q (same-sym m (at vs b) (at vs (key-number m vs b)) (stands b)))
+
+  -- two keys of one kind are the same exactly if their value numbers are
+  pub one-kind : (a b : ℕ) → a < valueCount t → b < valueCount t → at (tableOf t) a .kind ≡ at (tableOf t) b .kind
+      → T (same-key m (at (tableOf t) a) (at (tableOf t) b)) ↔ (a ≡ b)
+  unfolding vs
+  one-kind a b h k e = (alone a b h k e, λ q. subst (λ (x : ℕ). T (same-key m (at vs a) (at vs x))) q (same-refl m (at vs a)))

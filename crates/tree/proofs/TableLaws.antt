@@ -1,19 +1,21 @@
 -- Laws of the table of values, and of the loops that read a value's bytes. Assumes nothing.
 use Prim.Native.Nat.{ℕ, zero, suc, _+_, _*_, _-_, _≤_, _<_}
 use native.Mathlib.Omega.{arith}
+use native.Mathlib.Decide.{ℕ-discrete as decEq}
 use native.Mathlib.Numerals.{add-one}
-use mathlib.Core.Path.{_≡_, refl, ap, _∙_}
+use mathlib.Core.Path.{_≡_, refl, sym, ap, _∙_}
 use mathlib.Core.List.{List, [], _∷_}
-use mathlib.Core.Bool.{Bool, true, false, _&&_}
-use lib.ListN.{length, getD, drop, List·getD-eq-default, drop-of-length-le}
-use lib.Seq.{drop-cons}
+use mathlib.Core.Bool.{Bool, true, false, _&&_, _||_}
+use lib.ListN.{length, getD, set, drop, List·getD-eq-default, drop-of-length-le}
+use lib.Seq.{drop-cons, getD-set-same, getD-set-other, ext-getD}
 use lib.Dec.{eqb}
 use borrow.Author.Tests.{lt-ltb, le-ltb, eq-eqb, ne-eqb}
 use Rattle.tree.specs.Bytes.{u16At, nodeCount, valueCount}
 use Rattle.tree.specs.Search.{lowest}
 use Rattle.tree.specs.Values.{onward, bytesFrom, valueNo, offset}
 use Rattle.tree.specs.Keys.{same-bytes}
-use Rattle.tree.specs.Table.{valuesFrom, tableOf, no-value, at, below-or, listed-from}
+use Rattle.tree.specs.Table.{valuesFrom, tableOf, no-value, at, below-or, listed-from, Traits, KeyNumbers}
+use Rattle.tree.specs.declared.Mode.{Mode}
 
 length-values : (k : ℕ) (t : List ℕ) (o : ℕ) → length (valuesFrom k t o) ≡ k
 length-values zero t o = refl
@@ -98,3 +100,48 @@ module _ (t : List ℕ) (k o v i : ℕ) where
 
   pub listed-end : k ≤ i → listed-from (k - i) t (o + 2 * i) v ≡ false
   listed-end h = let q : k - i ≡ 0 = omega arith in rw q
+
+-- one global more
+pub listed-more : (k : ℕ) (t : List ℕ) (o v : ℕ) → listed-from (k + 1) t o v ≡ (listed-from k t o v || eqb (u16At t (o + 2 * k)) v)
+listed-more zero t o v = let q : o + 2 * 0 ≡ o = omega arith in rw q (go (eqb (u16At t o) v))
+  where
+    go : (b : Bool) → (b || false) ≡ b
+    go true = refl
+    go false = refl
+listed-more (suc k) t o v =
+    let p : suc k + 1 ≡ suc (k + 1) = omega arith in
+    let q : o + 2 * suc k ≡ o + 2 + 2 * k = omega arith in
+    rw (p, q, listed-more k t (o + 2) v) (assoc (eqb (u16At t o) v) (listed-from k t (o + 2) v) (eqb (u16At t (o + 2 + 2 * k)) v))
+  where
+    assoc : (a b c : Bool) → (a || (b || c)) ≡ ((a || b) || c)
+    assoc true b c = refl
+    assoc false b c = refl
+
+pub marked-more : (f : ℕ → Bool) (l : List Bool) (x : ℕ) → x < length l → ((k : ℕ) → k < 512 → getD l k false ≡ f k)
+    → (k : ℕ) → k < 512 → getD (set l x true) k false ≡ (f k || eqb x k)
+marked-more f l x h g k b = go (decEq x k)
+  where
+    or-true : (a : Bool) → (a || true) ≡ true
+    or-true true = refl
+    or-true false = refl
+    or-false : (a : Bool) → (a || false) ≡ a
+    or-false true = refl
+    or-false false = refl
+    go : Dec (x ≡ k) → getD (set l x true) k false ≡ (f k || eqb x k)
+    go (yes e) = rw (eq-eqb x k e, or-true (f k)) (rw (← e) (getD-set-same l x true false h))
+    go (no d) = rw (ne-eqb x k d, or-false (f k)) (getD-set-other l x k true false (λ q. d (sym q)) ∙ g k b)
+
+pub unmarked-more : (f : ℕ → Bool) (l : List Bool) (x : ℕ) → 512 ≤ x → ((k : ℕ) → k < 512 → getD l k false ≡ f k)
+    → (k : ℕ) → k < 512 → getD l k false ≡ (f k || eqb x k)
+unmarked-more f l x h g k b = rw (ne-eqb x k (λ q. omega arith)) (g k b ∙ or-false (f k))
+  where
+    or-false : (a : Bool) → a ≡ (a || false)
+    or-false true = refl
+    or-false false = refl
+
+-- a table of 512 entries is the only one of its kind
+pub traits-one : (f : ℕ → Bool) (a b : List Bool) → length a ≡ 512 → length b ≡ 512 → Traits f a → Traits f b → a ≡ b
+traits-one f a b p q g h = ext-getD false a b (p ∙ sym q) (λ i l. g i (omega arith) ∙ sym (h i (omega arith)))
+
+pub key-numbers-one : (t : List ℕ) (m : Mode) (a b : List ℕ) → length a ≡ 512 → length b ≡ 512 → KeyNumbers t m a → KeyNumbers t m b → a ≡ b
+key-numbers-one t m a b p q g h = ext-getD 0 a b (p ∙ sym q) (λ i l. g i (omega arith) ∙ sym (h i (omega arith)))

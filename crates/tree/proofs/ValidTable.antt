@@ -1,17 +1,18 @@
 -- The table of a valid file: its values are formed and ascend, so no value stands twice. Assumes nothing.
-use Prim.Native.Nat.{ℕ, zero, suc, _+_, _-_, _≤_, _<_}
+use Prim.Native.Nat.{ℕ, zero, suc, _+_, _*_, _-_, _≤_, _<_}
 use native.Mathlib.Omega.{arith}
 use native.Mathlib.Decide.{decLt}
 use mathlib.Core.Path.{_≡_, refl, sym, ap, subst, _∙_}
 use mathlib.Core.List.{List}
 use mathlib.Core.Bool.{Bool, true, false}
 use lib.Dec.{T, eqb, ltb}
-use lib.ListN.{getD}
+use lib.ListN.{length, getD}
 use borrow.Author.Tests.{lt-ltb, ltb-false, eq-eqb, ne-eqb}
 use Rattle.tree.specs.Bytes.{u16At, nodeCount, valueCount, pick}
 use Rattle.tree.specs.Search.{lowest}
-use Rattle.tree.specs.Values.{Value, formed, precedes, valueNo, bytesFrom, bad5}
-use Rattle.tree.specs.Judge.{limits, refuseAt, None5, judged, judged3, judged4, judged5, judged6}
+use Rattle.tree.specs.Values.{Value, formed, precedes, offset, valueNo, bytesFrom, bad5}
+use Rattle.tree.specs.declared.Refusal.the-variants.{Mark, Version, Counts, Sections, Value as Wrong-value}
+use Rattle.tree.specs.Judge.{marked, listed, limits, None5, judged, judged3, judged4, judged5, judged6}
 use Rattle.tree.specs.declared.Facts.{Facts}
 use Rattle.tree.specs.declared.Refusal.{Refusal}
 use Rattle.tree.specs.declared.Judged.{Judged}
@@ -39,10 +40,10 @@ valid-five t f e =
     let n = u16At t 5 in
     let v = u16At t 7 in
     let g = u16At t 9 in
-    let a = passed (eqb (u16At t 3) 1) (judged3 t n v g) _ f (passed _ _ _ f e .1) .1 in
-    let b = passed (limits n v g) (judged4 t n v g) _ f a in
-    let c = passed _ (judged5 t n v g) _ f (b .1) .1 in
-    let d = reached (ltb (lowest v (bad5 t n)) v) (judged6 t n v g) _ f c in
+    let a = passed (marked t) (pick (eqb (u16At t 3) 1) (judged3 t n v g) (Refused Version)) Mark f e in
+    let b = passed (limits n v g) (judged4 t n v g) Counts f (passed (eqb (u16At t 3) 1) (judged3 t n v g) Version f (a .1) .1) in
+    let c = passed (eqb (offset t n v + 2 * listed g) (length t)) (judged5 t n v g) Sections f (b .1) .1 in
+    let d = reached (ltb (lowest v (bad5 t n)) v) (judged6 t n v g) (Wrong-value (lowest v (bad5 t n))) f c in
     (limits-facts n v g (b .0) .1, ltb-false (lowest v (bad5 t n)) v (d .0))
 
 so : {b : Bool} → b ≡ true → T b

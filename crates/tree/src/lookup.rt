@@ -170,3 +170,21 @@ pub fn is_global(t: &[u8], v: usize) -> bool
     }
     false
 }
+
+// Which of the value numbers below 512 the file lists as globals.
+pub fn globals(t: &[u8]) -> [bool; 512]
+    ensures { λ r. ⌜ Traits (is-global (now (t .entry))) r ⌝ }
+{
+    let count = globals_listed(t);
+    let from = offset_of(t, node_count(t), value_count(t));
+    let mut table = [false; 512];
+    let mut i = 0;
+    while i < count {
+        let x = u16_at(t, from + 2 * i);
+        if x < 512 {
+            table[x] = true;
+        }
+        i += 1;
+    }
+    table
+}
