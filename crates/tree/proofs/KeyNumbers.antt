@@ -3,18 +3,17 @@ use Prim.Native.Nat.{ℕ, _+_, _≤_, _<_}
 use native.Mathlib.Omega.{arith}
 use mathlib.Core.Path.{_≡_, refl, sym, ap, _∙_}
 use mathlib.Core.List.{List}
-use mathlib.Core.Bool.{Bool, true, false, _&&_}
-use mathlib.Core.Option.{Option, none, some}
-use lib.Dec.{eqb, ltb}
-use lib.ListN.{length}
+use mathlib.Core.Bool.{Bool, true, false}
+use mathlib.Core.Option.{some}
+use lib.Dec.{ltb}
 use borrow.Author.Tests.{eq-eqb, ne-eqb}
 use Rattle.tree.specs.Bytes.{u64At, nodeCount, valueCount, pick}
 use Rattle.tree.specs.Search.{lowest}
-use Rattle.tree.specs.Values.{little, bytesFrom, valueFrom, offset}
+use Rattle.tree.specs.Values.{valueFrom, offset}
 use Rattle.tree.specs.Offsets.{kindOf, lenOf}
 use Rattle.tree.specs.declared.Mode.{Mode}
 use Rattle.tree.specs.Keys.{whole, bound, counted, capped}
-use Rattle.tree.specs.Table.{tableOf, at, below-or, is-integer, if-so, lead, key-number}
+use Rattle.tree.specs.Table.{tableOf, at, below-or, is-integer, lead, key-number}
 use Rattle.tree.proofs.Link.{length-from, little-eight}
 use Rattle.tree.proofs.TableLaws.{length-table, at-table, at-past}
 use Rattle.tree.proofs.WholeLaws.{counted-low, counted-high}

@@ -1,5 +1,5 @@
 -- In a valid file two keys are the same exactly if the numbers that stand for them are. Assumes nothing.
-use Prim.Native.Nat.{ℕ, _+_, _≤_, _<_}
+use Prim.Native.Nat.{ℕ, _+_, _<_}
 use native.Mathlib.Omega.{arith}
 use native.Mathlib.Decide.{decLt}
 use mathlib.Core.Path.{_≡_, refl, sym, ap, subst, _∙_}
@@ -7,7 +7,7 @@ use mathlib.Core.List.{List}
 use mathlib.Core.Logic.{_↔_}
 use mathlib.Core.Bool.{Bool, true, false, cond, _&&_}
 use mathlib.Core.Option.{Option, none, some, Option·none-ne-some, Option·some-injective}
-use lib.Dec.{T, eqb, leb, ltb, eqb→eq, eqb-refl}
+use lib.Dec.{T, eqb, leb, eqb→eq}
 use lib.ListN.{length, getD}
 use borrow.Author.Tests.{eq-eqb, ne-eqb, eqb-true}
 use Rattle.tree.specs.Bytes.{u16At, nodeCount, valueCount}
@@ -142,11 +142,13 @@ module _ (t : List ℕ) (f : Facts) (valid : judged t ≡ Valid f) (bytes : (k :
     where
       equal : a ≡ b → key-number m vs a ≡ key-number m vs b
       equal e = ap (key-number m vs) e
+
       cases : (n : ℕ) → Number m (at vs a) n → Number m (at vs b) n → key-number m vs a ≡ key-number m vs b
       cases n (whole-number p i) (whole-number q j) = equal (alone a b h k (p ∙ sym q) s)
       cases n (whole-number p i) (counted-float q e) = integer-own a p ∙ sym (meets a b n h i e)
       cases n (counted-float p e) (whole-number q j) = meets b a n k j e ∙ sym (integer-own b q)
       cases n (counted-float p d) (counted-float q e) = equal (alone a b h k (p ∙ sym q) s)
+
       go : Same m (at vs a) (at vs b) → key-number m vs a ≡ key-number m vs b
       go (by-form e) = equal (one-number t f valid a b h k e)
       go (by-number n d e) = cases n (as-number m (at vs a) n (value-formed t f valid a h) d) (as-number m (at vs b) n (value-formed t f valid b k) e)

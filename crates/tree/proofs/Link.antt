@@ -2,15 +2,15 @@
 use Prim.Native.Nat.{ℕ, zero, suc, _+_, _*_, _^_, _<_}
 use native.Mathlib.Omega.{arith}
 use native.Mathlib.Decide.{decLt}
-use mathlib.Core.Path.{_≡_, refl, sym, _∙_, ap}
+use mathlib.Core.Path.{_≡_, refl, _∙_, ap}
 use mathlib.Core.List.{List}
 use mathlib.Core.Bool.{Bool, true, false, cond, _&&_, _||_, not}
 use lib.Dec.{leb, ltb, eqb, eqb·suc-zero}
 use lib.ListN.{length, getD}
 use borrow.Author.Tests.{lt-ltb, le-ltb, eq-eqb, ne-eqb, eqb-true}
 use Rattle.tree.specs.Bytes.{u16At, u32At, u64At, pick}
-use Rattle.tree.specs.Values.{Value, Sense, a-name, a-text, an-integer, a-float, unknown, little, no-zero-first, form-as, formed, bytes-before, by-length, precedes, bytesFrom, valueFrom}
-use Rattle.tree.specs.Offsets.{kindOf, lenOf, integerOk, floatOk, formedAt, bytesLess, orderedAt}
+use Rattle.tree.specs.Values.{a-name, a-text, an-integer, a-float, unknown, little, no-zero-first, form-as, formed, bytes-before, by-length, precedes, bytesFrom, valueFrom}
+use Rattle.tree.specs.Offsets.{kindOf, lenOf, formedAt, bytesLess, orderedAt}
 
 pub length-from : (k : ℕ) (t : List ℕ) (o : ℕ) → length (bytesFrom k t o) ≡ k
 length-from zero t o = refl
@@ -79,5 +79,6 @@ precedes-from t a b = by-one (kindOf t a) (kindOf t b) _ _ (λ e. lengths)
   where
     same : lenOf t a ≡ lenOf t b → bytes-before (bytesFrom (lenOf t a) t (a + 3)) (bytesFrom (lenOf t b) t (b + 3)) ≡ bytesLess (lenOf t a) t (a + 3) (b + 3)
     same e = rw (← e) (less-from (lenOf t a) t (a + 3) (b + 3))
+
     lengths : by-length (bytesFrom (lenOf t a) t (a + 3)) (bytesFrom (lenOf t b) t (b + 3)) ≡ pick (ltb (lenOf t a) (lenOf t b)) true (pick (ltb (lenOf t b) (lenOf t a)) false (bytesLess (lenOf t a) t (a + 3) (b + 3)))
     lengths = simp (length-from (lenOf t a) t (a + 3), length-from (lenOf t b) t (b + 3)) (by-one (lenOf t a) (lenOf t b) _ _ same)

@@ -124,9 +124,11 @@ marked-more f l x h g k b = go (decEq x k)
     or-true : (a : Bool) → (a || true) ≡ true
     or-true true = refl
     or-true false = refl
+
     or-false : (a : Bool) → (a || false) ≡ a
     or-false true = refl
     or-false false = refl
+
     go : Dec (x ≡ k) → getD (set l x true) k false ≡ (f k || eqb x k)
     go (yes e) = rw (eq-eqb x k e, or-true (f k)) (rw (← e) (getD-set-same l x true false h))
     go (no d) = rw (ne-eqb x k d, or-false (f k)) (getD-set-other l x k true false (λ q. d (sym q)) ∙ g k b)

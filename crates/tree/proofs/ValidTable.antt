@@ -22,7 +22,7 @@ use Rattle.tree.proofs.Search.{clash, lowest-clear, lowest-hit, lowest-
 use Rattle.tree.proofs.Limits.{limits-facts}
 use Rattle.tree.proofs.Names.{well-formed, in-order}
 use Rattle.tree.proofs.TableLaws.{at-table, at-past, below-found, below-none}
-use Rattle.tree.proofs.KeyLaws.{all-bytes, both, formed-alike→eq, formed-alike-refl, precedes-trans, precedes-self}
+use Rattle.tree.proofs.KeyLaws.{all-bytes, both, formed-alike→eq, precedes-trans, precedes-self}
 
 -- a test that a valid file has passed
 passed : (b : Bool) (x : Judged) (r : Refusal) (f : Facts) → pick b x (Refused r) ≡ Valid f → (b ≡ true) × (x ≡ Valid f)
@@ -85,19 +85,23 @@ module _ (t : List ℕ) (f : Facts) (valid : judged t ≡ Valid f) where
     where
       p : ℕ → Bool
       p = spells (tableOf t) bs
+
       u : ℕ
       u = lowest (valueCount t) p
+
       inside : spells (tableOf t) bs v ≡ true → v < valueCount t
       inside e = low (decLt v (valueCount t))
         where
           low : Dec (v < valueCount t) → v < valueCount t
           low (yes l) = l
           low (no l) = clash e (rw (at-past t v (omega arith)))
+
       go : Dec (u < valueCount t) → spells (tableOf t) bs v ≡ eqb v (below-or u (valueCount t) 65536)
       go (yes l) = rw (below-found (valueCount t) u 65536 p refl l) (decide (spells (tableOf t) bs v) refl)
         where
           hit : spells (tableOf t) bs u ≡ true
           hit = lowest-hit (valueCount t) p l
+
           decide : (b : Bool) → spells (tableOf t) bs v ≡ b → b ≡ eqb v u
           decide true e = sym (eq-eqb v u (one-number v u (inside e) l
               (formed-alike→eq (at (tableOf t) v) _ (so e) ∙ sym (formed-alike→eq (at (tableOf t) u) _ (so hit)))))

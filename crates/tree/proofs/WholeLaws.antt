@@ -3,13 +3,13 @@ use Prim.Native.Nat.{ℕ, zero, suc, _+_, _-_, _*_, _/_, _%_, _^_, _≤_, _<_, m
 use mathlib.Core.Path.{_≡_, refl, sym, ap, _∙_, subst}
 use mathlib.Core.Bool.{Bool, true, false, _&&_}
 use mathlib.Core.Option.{Option, none, some}
-use native.Mathlib.Nat.{mul-le-mul-left, mul-le-mul-right, pow-le-pow-right, mod-lt, mod-eq-of-lt, lt-of-lt-of-le, div-le-self}
+use native.Mathlib.Nat.{mul-le-mul-left, pow-le-pow-right, mod-lt, mod-eq-of-lt, lt-of-lt-of-le, div-le-self}
 use native.Mathlib.Omega.{arith}
-use lib.Dec.{eqb, ltb, T, lt→ltb, lit<}
+use lib.Dec.{eqb, T, lit<}
 use borrow.Author.Tests.{lt-ltb, le-ltb, ne-eqb, eq-eqb}
 use Rattle.tree.specs.declared.Mode.{Mode}
 use Rattle.tree.specs.declared.Mode.the-variants.{Ordinary, Strict}
-use Rattle.tree.specs.Keys.{scaled, grains, finite, whole-if, whole, bound, counts, only-if, counted, capped}
+use Rattle.tree.specs.Keys.{scaled, grains, finite, whole-if, whole, bound, counted, capped}
 use Rattle.tree.proofs.KeyLaws.{pow-pos, low-field, high-field, grains-whole}
 
 -- the digits with the leading one
@@ -112,6 +112,7 @@ whole-large b h = go (finite b) refl
       where
         most : (n : ℕ) → 2 ^ 53 ≤ n → min n (2 ^ 53) ≡ 2 ^ 53
         most n h = omega arith
+
         enough : {z : ℕ} → full b * 2 ^ 1 ≤ z → 2 ^ 53 ≤ z
         enough {z} p = omega arith
 

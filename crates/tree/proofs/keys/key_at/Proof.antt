@@ -79,9 +79,10 @@ returns-5 c =
     let v = c .before .before .before .before .before .before .before .before .before .before .before .before .args .v in
     let o = c .before .before .before .before .before .before .before .before .before .before .before .before .args .o in
     let h : v < valueCount t = omega (arith, c .before .before .before .before .before .before .before .before .before .before .value-count .ensures .0, (c .before .before .before .before .before .before .before .before .before .if1 .left)) in
-    let x : c .before .before .before .whole-of .result ≡ capped (whole (u64At t (o + 3))) = c .before .before .before .whole-of .ensures ∙ ap (λ (b : ℕ). capped (whole b)) (c .before .before .before .before .u64-at .ensures) in
-    (c .integer-number .ensures ∙ sym (key-low t m v o h (c .before .before .before .before .before .before .before .before .before .before .before .before .pre .2) (sym (c .before .before .before .before .before .before .before .before .byte-at .ensures .0) ∙ (c .before .before .before .before .before .before .before .if2 .left)) (sym (c .before .before .before .before .before .before .u16-at .ensures .0) ∙ (c .before .before .before .before .before .if3 .left)) (c .before .before .before .whole-of .result) x (rw (c .before .before .bound-of .ensures .0) at (c .before .if4 .left))),
-    rw (c .integer-number .ensures) (below-less (lowest (valueCount t) (is-integer (tableOf t) (c .before .before .before .whole-of .result))) (valueCount t) v 65536 (omega (arith, c .before .before .before .before .before .before .before .before .before .before .value-count .ensures .0, c .before .before .before .before .before .before .before .before .before .before .value-count .ensures .1)) (omega arith)))
+    let x : c .before .before .before .whole-of .result ≡ capped (whole (u64At t (o + 3))) = c .before .before .before .whole-of .ensures ∙ ap (λ (b : ℕ). capped (whole b)) (c .before .before .before .before .u64-at .ensures) in (
+      c .integer-number .ensures ∙ sym (key-low t m v o h (c .before .before .before .before .before .before .before .before .before .before .before .before .pre .2) (sym (c .before .before .before .before .before .before .before .before .byte-at .ensures .0) ∙ (c .before .before .before .before .before .before .before .if2 .left)) (sym (c .before .before .before .before .before .before .u16-at .ensures .0) ∙ (c .before .before .before .before .before .if3 .left)) (c .before .before .before .whole-of .result) x (rw (c .before .before .bound-of .ensures .0) at (c .before .if4 .left))),
+      rw (c .integer-number .ensures) (below-less (lowest (valueCount t) (is-integer (tableOf t) (c .before .before .before .whole-of .result))) (valueCount t) v 65536 (omega (arith, c .before .before .before .before .before .before .before .before .before .before .value-count .ensures .0, c .before .before .before .before .before .before .before .before .before .before .value-count .ensures .1)) (omega arith)),
+    )
 
 pub key-at-spec : {M : Type 1} → statement M
 key-at-spec =

@@ -71,12 +71,19 @@ loop-again c =
     let m = c .before .before .before .before .before .before .before .args .mode in
     let v = c .before .before .before .before .loop .v in
     let f = c .before .before .before .before .loop .inv .1 .1 .1 .0 in
-    let e = c .u16-at .ensures .0 in
-    (omega arith,
-    (length-set (c .before .before .before .before .loop .keys) v (c .before .narrow .result) ∙ c .before .before .before .before .loop .inv .1 .0,
-    (omega (arith, c .u16-at .ensures .1, c .before .before .before .before .loop .inv .1 .1 .0),
-    (rw offset-next (rw (← f) (rw (← e) refl)),
-    entry-more 0 (key-number m (tableOf t)) (c .before .before .before .before .loop .keys) v (c .before .narrow .result) (omega (arith, c .before .before .before .before .loop .inv .1 .0)) (c .before .narrow .ensures ∙ c .before .before .key-at .ensures .0) (c .before .before .before .before .loop .inv .1 .1 .1 .1)))))
+    let e = c .u16-at .ensures .0 in (
+      omega arith,
+      (
+        length-set (c .before .before .before .before .loop .keys) v (c .before .narrow .result) ∙ c .before .before .before .before .loop .inv .1 .0,
+        (
+          omega (arith, c .u16-at .ensures .1, c .before .before .before .before .loop .inv .1 .1 .0),
+          (
+            rw offset-next (rw (← f) (rw (← e) refl)),
+            entry-more 0 (key-number m (tableOf t)) (c .before .before .before .before .loop .keys) v (c .before .narrow .result) (omega (arith, c .before .before .before .before .loop .inv .1 .0)) (c .before .narrow .ensures ∙ c .before .before .key-at .ensures .0) (c .before .before .before .before .loop .inv .1 .1 .1 .1),
+          ),
+        ),
+      ),
+    )
 
 returns : tie.Need-returns Inv-loop μ-loop
 returns c =

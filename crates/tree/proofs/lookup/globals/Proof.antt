@@ -61,14 +61,17 @@ loop-again c =
     let x = c .before .u16-at .result in
     let l = c .before .before .before .loop .table in
     let g = c .before .before .before .loop .inv .1 .1 in
-    let more : (j : ℕ) → (listed-from i t o j || eqb x j) ≡ listed-from (i + 1) t o j = λ j. rw (c .before .u16-at .ensures .0) (sym (listed-more i t o j)) in
-    (search needs,
-    (⊎-elim (λ w. ap length (w .1) ∙ length-set l x true ∙ c .before .before .before .loop .inv .1 .0) (λ w. ap length (w .1) ∙ c .before .before .before .loop .inv .1 .0) (c .if1 .came),
-    λ j h.
-    ⊎-elim
-    (λ w. ap (λ (z : List Bool). getD z j false) (w .1) ∙ marked-more (listed-from i t o) l x (omega (arith, w .0 .taken, c .before .before .before .loop .inv .1 .0)) g j h ∙ more j)
-    (λ w. ap (λ (z : List Bool). getD z j false) (w .1) ∙ unmarked-more (listed-from i t o) l x (w .0 .left) g j h ∙ more j)
-    (c .if1 .came)))
+    let more : (j : ℕ) → (listed-from i t o j || eqb x j) ≡ listed-from (i + 1) t o j = λ j. rw (c .before .u16-at .ensures .0) (sym (listed-more i t o j)) in (
+      search needs,
+      (
+        ⊎-elim (λ w. ap length (w .1) ∙ length-set l x true ∙ c .before .before .before .loop .inv .1 .0) (λ w. ap length (w .1) ∙ c .before .before .before .loop .inv .1 .0) (c .if1 .came),
+        λ j h.
+            ⊎-elim
+            (λ w. ap (λ (z : List Bool). getD z j false) (w .1) ∙ marked-more (listed-from i t o) l x (omega (arith, w .0 .taken, c .before .before .before .loop .inv .1 .0)) g j h ∙ more j)
+            (λ w. ap (λ (z : List Bool). getD z j false) (w .1) ∙ unmarked-more (listed-from i t o) l x (w .0 .left) g j h ∙ more j)
+            (c .if1 .came),
+      ),
+    )
 
 returns : tie.Need-returns Inv-loop μ-loop
 returns c =

@@ -64,12 +64,19 @@ loop-again c =
     let t = c .before .before .before .before .before .before .args .t .now in
     let v = c .before .before .before .loop .v in
     let f = c .before .before .before .loop .inv .1 .1 .1 .0 in
-    let e = c .u16-at .ensures .0 in
-    (omega arith,
-    (length-set (c .before .before .before .loop .table) v (c .before .underscored-at .result) ∙ c .before .before .before .loop .inv .1 .0,
-    (omega (arith, c .u16-at .ensures .1, c .before .before .before .loop .inv .1 .1 .0),
-    (rw offset-next (rw (← f) (rw (← e) refl)),
-    entry-more false (underscored (tableOf t)) (c .before .before .before .loop .table) v (c .before .underscored-at .result) (omega (arith, c .before .before .before .loop .inv .1 .0)) (c .before .underscored-at .ensures) (c .before .before .before .loop .inv .1 .1 .1 .1)))))
+    let e = c .u16-at .ensures .0 in (
+      omega arith,
+      (
+        length-set (c .before .before .before .loop .table) v (c .before .underscored-at .result) ∙ c .before .before .before .loop .inv .1 .0,
+        (
+          omega (arith, c .u16-at .ensures .1, c .before .before .before .loop .inv .1 .1 .0),
+          (
+            rw offset-next (rw (← f) (rw (← e) refl)),
+            entry-more false (underscored (tableOf t)) (c .before .before .before .loop .table) v (c .before .underscored-at .result) (omega (arith, c .before .before .before .loop .inv .1 .0)) (c .before .underscored-at .ensures) (c .before .before .before .loop .inv .1 .1 .1 .1),
+          ),
+        ),
+      ),
+    )
 
 returns : tie.Need-returns Inv-loop μ-loop
 returns c =
