@@ -10,9 +10,9 @@ use borrow.Author.Tests.{eq-eqb, ne-eqb}
 use Rattle.tree.specs.Bytes.{u64At, nodeCount, valueCount, pick}
 use Rattle.tree.specs.Search.{lowest}
 use Rattle.tree.specs.Values.{valueFrom, offset}
-use Rattle.tree.specs.Offsets.{kindOf, lenOf}
+use Rattle.tree.specs.Offsets.{capped, kindOf, lenOf}
 use Rattle.tree.specs.declared.Mode.{Mode}
-use Rattle.tree.specs.Keys.{whole, bound, counted, capped}
+use Rattle.tree.specs.Keys.{whole, bound, counted}
 use Rattle.tree.specs.Table.{tableOf, at, below-or, is-integer, lead, key-number}
 use Rattle.tree.proofs.Link.{length-from, little-eight}
 use Rattle.tree.proofs.TableLaws.{length-table, at-table, at-past}

@@ -9,7 +9,8 @@ use lib.Dec.{eqb, T, lit<}
 use borrow.Author.Tests.{lt-ltb, le-ltb, ne-eqb, eq-eqb}
 use Rattle.tree.specs.declared.Mode.{Mode}
 use Rattle.tree.specs.declared.Mode.the-variants.{Ordinary, Strict}
-use Rattle.tree.specs.Keys.{scaled, grains, finite, whole-if, whole, bound, counted, capped}
+use Rattle.tree.specs.Keys.{scaled, grains, finite, whole-if, whole, bound, counted}
+use Rattle.tree.specs.Offsets.{capped}
 use Rattle.tree.proofs.KeyLaws.{pow-pos, low-field, high-field, grains-whole}
 
 -- the digits with the leading one

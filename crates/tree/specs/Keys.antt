@@ -1,5 +1,5 @@
 -- 01, "Keys": which numbers values stand for, and when two of them are the same key. Assumes nothing.
-use Prim.Native.Nat.{ℕ, zero, suc, _+_, _*_, _/_, _%_, _^_, min}
+use Prim.Native.Nat.{ℕ, zero, suc, _+_, _*_, _/_, _%_, _^_}
 use mathlib.Core.Bool.{Bool, true, false, _&&_}
 use mathlib.Core.List.{List, [], _∷_}
 use mathlib.Core.Option.{Option, none, some}
@@ -50,11 +50,6 @@ only-if false n = none
 abbrev pub counted : Mode → Option ℕ → Option ℕ
 counted m none = none
 counted m (some n) = only-if (counts m n) n
-
--- what the code computes of it, in 64 bits: 2 ^ 53 stands for all that is none or too large to count
-abbrev pub capped : Option ℕ → ℕ
-capped none = 2 ^ 53
-capped (some n) = min n (2 ^ 53)
 
 abbrev pub number-as : Mode → Sense → List ℕ → Option ℕ
 number-as m a-name bs = none

@@ -1,5 +1,6 @@
 // The tree file of document 01: any bytes are judged, and are a valid tree or refused by number and place.
-// Cost: linear in the bytes; 4 KiB of arrays on the stack (parents and depths, two bytes a node).
+// Cost of judge: linear in the bytes; 4 KiB of arrays on the stack (parents and depths, two bytes a node).
+// What a pass asks of the values of a file that was judged is in lookup and keys, with its cost there.
 ghost use mathlib.Core.Path.{_≡_};
 ghost use Prim.Native.Nat.{_≤_};
 ghost use Rattle.tree.specs.Judge.{marked, listed, limits, judged9, judged8, judged7, judged6, judged5, judged4, judged3, judged, None5, None6};

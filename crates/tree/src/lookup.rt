@@ -2,7 +2,7 @@
 // Cost: a walk over the values or the globals a call; a table is 512 bytes, filled once and read by value number.
 ghost use mathlib.Core.Path.{_≡_};
 ghost use mathlib.Core.Bool.{not};
-ghost use Prim.Native.Nat.{_<_, _≤_};
+ghost use Prim.Native.Nat.{_<_};
 ghost use lib.Dec.{eqb};
 ghost use lib.ListN.{length};
 ghost use Rattle.tree.specs.Bytes.{nodeCount, globalCount};

@@ -4,7 +4,8 @@ use native.Mathlib.Omega.{arith}
 use mathlib.Core.Path.{_≡_, sym, ap, _∙_}
 use Rattle.tree.specs.Bytes.{u64At, valueCount}
 use Rattle.tree.specs.Search.{lowest}
-use Rattle.tree.specs.Keys.{whole, capped}
+use Rattle.tree.specs.Keys.{whole}
+use Rattle.tree.specs.Offsets.{capped}
 use Rattle.tree.specs.Table.{tableOf, at, is-integer}
 use Rattle.tree.proofs.KeyNumbers.{key-past, below-less, key-other, key-length, key-high, key-low}
 use Rattle.tree.proofs.keys.key_at.Statement.{statement}
