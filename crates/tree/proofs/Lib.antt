@@ -2,7 +2,14 @@
 pub mod Past
 pub mod Search
 pub mod ValueLaws
+pub mod Link
+pub mod TableLaws
+pub mod KeyLaws
+pub mod WholeLaws
+pub mod KeyNumbers
 pub mod Names
+pub mod ValidTable
+pub mod KeyTable
 pub mod Tables
 pub mod Table
 pub mod Slots

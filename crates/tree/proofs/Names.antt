@@ -2,14 +2,16 @@
 use Prim.Native.Nat.{ℕ, zero, suc, _+_, _-_, _≤_, _<_}
 use native.Mathlib.Omega.{arith}
 use native.Mathlib.Decide.{decLt}
-use mathlib.Core.Path.{_≡_, refl, _∙_}
+use mathlib.Core.Path.{_≡_, refl, sym, _∙_}
 use mathlib.Core.List.{List}
 use mathlib.Core.Bool.{Bool, true, false, _&&_, _||_, not}
 use lib.Dec.{ltb, leb, eqb}
 use borrow.Author.Tests.{lt-ltb, le-ltb, le-leb, lt-leb, eq-eqb, ne-eqb, eqb-true}
 use Rattle.tree.specs.Search.{lowest}
-use Rattle.tree.specs.Values.{offset, kindOf, lenOf, formed, ordered, bad5, bad9, isName, isLiteral, globalAt}
+use Rattle.tree.specs.Values.{offset, valueNo, formed, precedes, bad5, bad9, isName, isLiteral, globalAt}
+use Rattle.tree.specs.Offsets.{kindOf, lenOf, formedAt, orderedAt}
 use Rattle.tree.specs.Judge.{None5, notName, namesOf}
+use Rattle.tree.proofs.Link.{formed-from, precedes-from}
 use Rattle.tree.proofs.Search.{clash, lowest-clear, lowest-hit, lowest-le, not-so}
 
 pub or-left : (a b : Bool) → (a || b) ≡ false → a ≡ false
@@ -28,16 +30,16 @@ pub and-right : (a b : Bool) → (a && b) ≡ true → b ≡ true
 and-right true b e = e
 and-right false b e = clash e refl
 
-ordered-kind : (t : List ℕ) (a b : ℕ) → ordered t a b ≡ true → kindOf t a ≤ kindOf t b
-unfolding ordered
+ordered-kind : (t : List ℕ) (a b : ℕ) → orderedAt t a b ≡ true → kindOf t a ≤ kindOf t b
+unfolding orderedAt
 ordered-kind t a b e = go (decLt (kindOf t b) (kindOf t a))
   where
     go : Dec (kindOf t b < kindOf t a) → kindOf t a ≤ kindOf t b
     go (yes l) = clash e (simp (le-ltb (kindOf t a) (kindOf t b) (omega arith), lt-ltb _ _ l))
     go (no l) = omega arith
 
-formed-kind : (t : List ℕ) (o : ℕ) → formed t o ≡ true → kindOf t o ≤ 4
-unfolding formed
+formed-kind : (t : List ℕ) (o : ℕ) → formedAt t o ≡ true → kindOf t o ≤ 4
+unfolding formedAt
 formed-kind t o e = go (decLt 4 (kindOf t o))
   where
     go : Dec (4 < kindOf t o) → kindOf t o ≤ 4
@@ -50,23 +52,23 @@ module _ (t : List ℕ) (n nv : ℕ) (none : None5 t n nv) where
   fine : (i : ℕ) → i < nv → bad5 t n i ≡ false
   fine i h = lowest-clear nv (bad5 t n) i (omega (arith, none))
 
-  well-formed : (i : ℕ) → i < nv → formed t (offset t n i) ≡ true
+  pub well-formed : (i : ℕ) → i < nv → formed (valueNo t n i) ≡ true
   unfolding bad5
-  well-formed i h = not-so (formed t (offset t n i)) (or-left (not (formed t (offset t n i))) _ (fine i h))
+  well-formed i h = not-so (formed (valueNo t n i)) (or-left (not (formed (valueNo t n i))) _ (fine i h))
 
-  in-order : (i : ℕ) → suc i < nv → ordered t (offset t n i) (offset t n (suc i)) ≡ true
+  pub in-order : (i : ℕ) → suc i < nv → precedes (valueNo t n i) (valueNo t n (suc i)) ≡ true
   unfolding bad5
   in-order i h =
-      let f = or-right (not (formed t (offset t n (suc i)))) _ (fine (suc i) h) in
+      let f = or-right (not (formed (valueNo t n (suc i)))) _ (fine (suc i) h) in
       let q : suc i - 1 ≡ i = omega arith in
-      not-so (ordered t (offset t n i) (offset t n (suc i))) (rw q at (simp (lt-ltb 0 (suc i) (omega arith)) at f))
+      not-so (precedes (valueNo t n i) (valueNo t n (suc i))) (rw q at (simp (lt-ltb 0 (suc i) (omega arith)) at f))
 
   rise : (i d : ℕ) → i + d < nv → kindOf t (offset t n i) ≤ kindOf t (offset t n (i + d))
   rise i zero h = let q : i + 0 ≡ i = omega arith in rw q (omega arith)
   rise i (suc d) h =
       let q : i + suc d ≡ suc (i + d) = omega arith in
       let a = rise i d (omega arith) in
-      let b = ordered-kind t (offset t n (i + d)) (offset t n (suc (i + d))) (in-order (i + d) (omega arith)) in
+      let b = ordered-kind t (offset t n (i + d)) (offset t n (suc (i + d))) (sym (precedes-from t (offset t n (i + d)) (offset t n (suc (i + d)))) ∙ in-order (i + d) (omega arith)) in
       rw q (omega arith)
 
   named-below : (v : ℕ) → v < namesOf t n nv → kindOf t (offset t n v) ≡ 0
@@ -106,7 +108,7 @@ module _ (t : List ℕ) (n nv : ℕ) (none : None5 t n nv) where
   literal-high v a = go (decLt v nv)
     where
       go : Dec (v < nv) → isLiteral t n nv v ≡ ltb v nv
-      go (yes b) = let o = other-above v a b in let p = formed-kind t (offset t n v) (well-formed v b) in simp (lt-ltb _ _ b, le-leb 1 (kindOf t (offset t n v)) (omega arith), le-leb (kindOf t (offset t n v)) 4 (omega arith))
+      go (yes b) = let o = other-above v a b in let p = formed-kind t (offset t n v) (sym (formed-from t (offset t n v)) ∙ well-formed v b) in simp (lt-ltb _ _ b, le-leb 1 (kindOf t (offset t n v)) (omega arith), le-leb (kindOf t (offset t n v)) 4 (omega arith))
       go (no b) = simp (le-ltb v nv (omega arith))
 
   -- 9, by the number of names
@@ -131,22 +133,22 @@ module _ (t : List ℕ) (n nv : ℕ) (none : None5 t n nv) where
   nine-first i h l = simp (name-test (globalAt t n nv i) ∙ lt-ltb _ _ h, le-ltb 0 i l)
 
 -- 5, test by test
-pub five-form : (t : List ℕ) (n i : ℕ) → formed t (offset t n i) ≡ false → bad5 t n i ≡ true
+pub five-form : (t : List ℕ) (n i : ℕ) → formedAt t (offset t n i) ≡ false → bad5 t n i ≡ true
 unfolding bad5
-five-form t n i e = simp e
+five-form t n i e = simp (formed-from t (offset t n i) ∙ e)
 
-pub five-order : (t : List ℕ) (n i : ℕ) → formed t (offset t n i) ≡ true → 0 < i → ordered t (offset t n (i - 1)) (offset t n i) ≡ false → bad5 t n i ≡ true
+pub five-order : (t : List ℕ) (n i : ℕ) → formedAt t (offset t n i) ≡ true → 0 < i → orderedAt t (offset t n (i - 1)) (offset t n i) ≡ false → bad5 t n i ≡ true
 unfolding bad5
-five-order t n i e z o = simp (e, lt-ltb _ _ z, o)
+five-order t n i e z o = simp (formed-from t (offset t n i) ∙ e, lt-ltb _ _ z, precedes-from t (offset t n (i - 1)) (offset t n i) ∙ o)
 
-pub five-ok : (t : List ℕ) (n i : ℕ) → formed t (offset t n i) ≡ true → ordered t (offset t n (i - 1)) (offset t n i) ≡ true → bad5 t n i ≡ false
+pub five-ok : (t : List ℕ) (n i : ℕ) → formedAt t (offset t n i) ≡ true → orderedAt t (offset t n (i - 1)) (offset t n i) ≡ true → bad5 t n i ≡ false
 unfolding bad5
-five-ok t n i e o = simp (e, o) (dead (ltb 0 i))
+five-ok t n i e o = simp (formed-from t (offset t n i) ∙ e, precedes-from t (offset t n (i - 1)) (offset t n i) ∙ o) (dead (ltb 0 i))
   where
     dead : (b : Bool) → (b && false) ≡ false
     dead true = refl
     dead false = refl
 
-pub five-first : (t : List ℕ) (n i : ℕ) → formed t (offset t n i) ≡ true → i ≤ 0 → bad5 t n i ≡ false
+pub five-first : (t : List ℕ) (n i : ℕ) → formedAt t (offset t n i) ≡ true → i ≤ 0 → bad5 t n i ≡ false
 unfolding bad5
-five-first t n i e l = simp (e, le-ltb 0 i l)
+five-first t n i e l = simp (formed-from t (offset t n i) ∙ e, le-ltb 0 i l)

@@ -6,7 +6,7 @@ use mathlib.Core.List.{List, [], _∷_}
 use lib.Dec.{eqb}
 use Rattle.tree.specs.Search.{first}
 use Rattle.tree.specs.Bytes.{u16At, u32At, u64At, kindAt, roleAt, sizeAt, beginAt, endAt, valueAt, lastAt}
-use Rattle.tree.specs.Values.{offset, formed, bytesLess, ordered, bad5, bad9}
+use Rattle.tree.specs.Values.{offset, formed, precedes, bad5, bad9}
 use Rattle.tree.specs.Nodes.{parentIn, parentOf, limitOf, known, valueFits, good6, bad6, depthIn, depthOf, bad8}
 use Rattle.tree.specs.Children.{classOf, slotOf, kidsIn, kidsOf, allStand, ofRole, allFilled, paired, forFirst, inOrder, good7, rootOk, bad7}
 use Rattle.tree.specs.Judge.{judged, judged3, judged4, judged5, judged6, judged7, judged8, judged9, factsOf, namesOf, numberOf, placeOf}
@@ -23,5 +23,5 @@ agree [] = true
 agree (s ∷ ss) = says (judged (s .bytes)) (s .number) (s .place) && agree ss
 
 pub samples-agree : agree samples ≡ true
-unfolding judged judged3 judged4 judged5 judged6 judged7 judged8 judged9 factsOf namesOf first u16At u32At u64At kindAt roleAt sizeAt beginAt endAt valueAt lastAt offset formed bytesLess ordered bad5 bad9 parentIn parentOf limitOf known valueFits good6 bad6 depthIn depthOf bad8 classOf slotOf kidsIn kidsOf allStand ofRole allFilled paired forFirst inOrder good7 rootOk bad7 samples
+unfolding judged judged3 judged4 judged5 judged6 judged7 judged8 judged9 factsOf namesOf first u16At u32At u64At kindAt roleAt sizeAt beginAt endAt valueAt lastAt offset formed precedes bad5 bad9 parentIn parentOf limitOf known valueFits good6 bad6 depthIn depthOf bad8 classOf slotOf kidsIn kidsOf allStand ofRole allFilled paired forFirst inOrder good7 rootOk bad7 samples
 samples-agree = refl

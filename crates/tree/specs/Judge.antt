@@ -6,7 +6,7 @@ use lib.ListN.{length, getD}
 use lib.Dec.{leb, ltb, eqb}
 use Rattle.tree.specs.Bytes.{u16At, pick}
 use Rattle.tree.specs.Search.{lowest}
-use Rattle.tree.specs.Values.{offset, kindOf, bad5, bad9}
+use Rattle.tree.specs.Values.{offset, valueNo, bad5, bad9}
 use Rattle.tree.specs.Nodes.{bad6, bad8}
 use Rattle.tree.specs.Children.{bad7}
 use Rattle.tree.specs.declared.Facts.{Facts}
@@ -53,7 +53,7 @@ abbrev pub limits : ℕ → ℕ → ℕ → Bool
 limits n nv g = leb 1 n && (leb n 1024 && (leb nv 512 && (leb g 512 || eqb g 65535)))
 
 abbrev pub notName : List ℕ → ℕ → ℕ → Bool
-notName t n i = not (eqb (kindOf t (offset t n i)) 0)
+notName t n i = not (eqb (valueNo t n i .kind) 0)
 
 -- how many names the values begin with
 unfoldable pub namesOf : List ℕ → ℕ → ℕ → ℕ

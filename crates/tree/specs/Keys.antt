@@ -1,9 +1,11 @@
 -- 01, "Keys": which numbers values stand for, and when two of them are the same key. Assumes nothing.
 use Prim.Native.Nat.{ℕ, zero, suc, _+_, _*_, _/_, _%_, _^_}
-use mathlib.Core.Bool.{Bool, true, false, cond, _&&_, _||_, not}
+use mathlib.Core.Bool.{Bool, true, false, _&&_}
 use mathlib.Core.List.{List, [], _∷_}
 use mathlib.Core.Option.{Option, none, some}
-use lib.Dec.{eqb, leb, ltb}
+use lib.Dec.{eqb, ltb}
+use Rattle.tree.specs.declared.Mode.{Mode}
+use Rattle.tree.specs.declared.Mode.the-variants.{Ordinary, Strict}
 use Rattle.tree.specs.Values.{Value, Sense, a-name, a-text, an-integer, a-float, unknown, sense, magnitude, little}
 
 -- A binary64 with the sign clear, from its 64 bits: 52 bits of digits, above them the exponent's field.
@@ -33,13 +35,13 @@ whole-if false g = none
 abbrev pub whole : ℕ → Option ℕ
 whole b = whole-if (finite b && eqb (grains b % 2 ^ 1074) 0) (grains b)
 
-pub data Mode : Type 0 where
-  ordinary strict : Mode
-
 -- "A float that is a whole i32 is that integer"; strict: "a whole float below 2^53 equals the integer of that value"
+abbrev pub bound : Mode → ℕ
+bound Ordinary = 2 ^ 31
+bound Strict = 2 ^ 53
+
 abbrev pub counts : Mode → ℕ → Bool
-counts ordinary n = ltb n (2 ^ 31)
-counts strict n = ltb n (2 ^ 53)
+counts m n = ltb n (bound m)
 
 abbrev pub only-if : Bool → ℕ → Option ℕ
 only-if true n = some n

@@ -2,6 +2,7 @@
 pub mod Bytes
 pub mod Search
 pub mod Values
+pub mod Offsets
 pub mod Nodes
 pub mod Children
 pub mod Packed

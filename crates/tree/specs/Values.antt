@@ -1,10 +1,10 @@
--- 01, "Value: ..": where a value stands, its form, the order of two; globals. Assumes nothing.
-use Prim.Native.Nat.{ℕ, zero, suc, _+_, _*_, _-_}
+-- 01, "Value: ..": what a value is, its form, the order of two, where it stands; globals. Assumes nothing.
+use Prim.Native.Nat.{ℕ, zero, suc, _+_, _*_, _-_, _^_}
 use mathlib.Core.List.{List, [], _∷_}
 use mathlib.Core.Bool.{Bool, true, false, cond, _&&_, _||_, not}
-use lib.ListN.{getD}
+use lib.ListN.{length, getD}
 use lib.Dec.{leb, ltb, eqb}
-use Rattle.tree.specs.Bytes.{u16At, u64At, nodeAt, pick}
+use Rattle.tree.specs.Bytes.{u16At, nodeAt}
 
 -- kinds: 0 name, 1 string, 2 bytes, 3 integer, 4 float
 pub record Value : Type 0 where
@@ -31,6 +31,38 @@ abbrev pub little : List ℕ → ℕ
 little [] = 0
 little (b ∷ bs) = b + 256 * little bs
 
+-- "no leading zero byte, empty for 0"
+abbrev pub no-zero-first : List ℕ → Bool
+no-zero-first [] = true
+no-zero-first (b ∷ bs) = not (eqb b 0)
+
+-- "0 name (not empty), 1 string, 2 bytes, 3 integer (.., at most 64 bytes), 4 float (8 bytes of binary64, sign clear, not NaN)":
+-- sign clear and no NaN is at most infinity, as a number of 64 bits
+abbrev pub form-as : Sense → List ℕ → Bool
+form-as a-name bs = leb 1 (length bs)
+form-as a-text bs = true
+form-as an-integer bs = leb (length bs) 64 && no-zero-first bs
+form-as a-float bs = eqb (length bs) 8 && leb (little bs) (2047 * 2 ^ 52)
+form-as unknown bs = false
+
+-- "Length at most 255."
+unfoldable pub formed : Value → Bool
+formed v = leb (length (v .bytes)) 255 && form-as (sense (v .kind)) (v .bytes)
+
+abbrev pub bytes-before : List ℕ → List ℕ → Bool
+bytes-before [] [] = false
+bytes-before [] (c ∷ cs) = true
+bytes-before (b ∷ bs) [] = false
+bytes-before (b ∷ bs) (c ∷ cs) = ltb b c || (eqb b c && bytes-before bs cs)
+
+-- of one kind: by length, then bytes
+abbrev pub by-length : List ℕ → List ℕ → Bool
+by-length bs cs = ltb (length bs) (length cs) || (eqb (length bs) (length cs) && bytes-before bs cs)
+
+-- "Values ascend strictly by kind, length, bytes."
+unfoldable pub precedes : Value → Value → Bool
+precedes v w = ltb (v .kind) (w .kind) || (eqb (v .kind) (w .kind) && by-length (v .bytes) (w .bytes))
+
 -- the k bytes from o on
 abbrev pub bytesFrom : ℕ → List ℕ → ℕ → List ℕ
 bytesFrom zero t o = []
@@ -40,13 +72,7 @@ bytesFrom (suc k) t o = getD t o 0 ∷ bytesFrom k t (o + 1)
 abbrev pub valueFrom : List ℕ → ℕ → Value
 valueFrom t o = record { kind = getD t o 0; bytes = bytesFrom (u16At t (o + 1)) t (o + 3) }
 
--- of a value that starts at o: its kind, its length as written, and where the next one starts
-abbrev pub kindOf : List ℕ → ℕ → ℕ
-kindOf t o = getD t o 0
-
-abbrev pub lenOf : List ℕ → ℕ → ℕ
-lenOf t o = u16At t (o + 1)
-
+-- where the value after the one at o starts
 abbrev pub after : List ℕ → ℕ → ℕ
 after t o = o + 3 + u16At t (o + 1)
 
@@ -55,52 +81,21 @@ unfoldable pub offset : List ℕ → ℕ → ℕ → ℕ
 offset t n zero = nodeAt n
 offset t n (suc i) = after t (offset t n i)
 
--- 3 integer: no leading zero byte, empty for 0, at most 64 bytes
-abbrev pub integerOk : List ℕ → ℕ → Bool
-integerOk t o = leb (lenOf t o) 64 && (eqb (lenOf t o) 0 || not (eqb (getD t (o + 3) 0) 0))
+-- value i, in a file of n nodes
+abbrev pub valueNo : List ℕ → ℕ → ℕ → Value
+valueNo t n i = valueFrom t (offset t n i)
 
--- 4 float: 8 bytes; sign clear and no NaN is: as a number no more than the bits of infinity
-abbrev pub floatOk : List ℕ → ℕ → Bool
-floatOk t o = eqb (lenOf t o) 8 && leb (u64At t (o + 3)) 9218868437227405312
-
-unfoldable pub formed : List ℕ → ℕ → Bool
-formed t o =
-    leb (lenOf t o) 255
-    && pick (eqb (kindOf t o) 0) (leb 1 (lenOf t o))
-    (pick (leb (kindOf t o) 2) true
-    (pick (eqb (kindOf t o) 3) (integerOk t o)
-    (pick (eqb (kindOf t o) 4) (floatOk t o) false)))
-
--- of k bytes from a and from b, the first that differ are less and greater
-unfoldable pub bytesLess : ℕ → List ℕ → ℕ → ℕ → Bool
-bytesLess zero t a b = false
-bytesLess (suc k) t a b =
-    elim (ltb (getD t a 0) (getD t b 0)) [
-      | true ↦ true
-      | false ↦ elim (ltb (getD t b 0) (getD t a 0)) [ true ↦ false | false ↦ bytesLess k t (a + 1) (b + 1) ]
-    ]
-
--- strictly by kind, length, bytes: the value at a, and then the one at b
-unfoldable pub ordered : List ℕ → ℕ → ℕ → Bool
-ordered t a b =
-    pick (ltb (kindOf t a) (kindOf t b)) true
-    (pick (ltb (kindOf t b) (kindOf t a)) false
-    (pick (ltb (lenOf t a) (lenOf t b)) true
-    (pick (ltb (lenOf t b) (lenOf t a)) false (bytesLess (lenOf t a) t (a + 3) (b + 3)))))
-
--- 5: value i, of n nodes' file
+-- 5: value i has a wrong form, or does not follow the one before it
 unfoldable pub bad5 : List ℕ → ℕ → ℕ → Bool
-bad5 t n i =
-    not (formed t (offset t n i))
-    || (ltb 0 i && not (ordered t (offset t n (i - 1)) (offset t n i)))
+bad5 t n i = not (formed (valueNo t n i)) || (ltb 0 i && not (precedes (valueNo t n (i - 1)) (valueNo t n i)))
 
--- value number v is one of the v's below nv, and a name
+-- value number v is one of the nv values, and a name
 abbrev pub isName : List ℕ → ℕ → ℕ → ℕ → Bool
-isName t n nv v = ltb v nv && eqb (kindOf t (offset t n v)) 0
+isName t n nv v = ltb v nv && eqb (valueNo t n v .kind) 0
 
 -- ... and a string, bytes, an integer or a float
 abbrev pub isLiteral : List ℕ → ℕ → ℕ → ℕ → Bool
-isLiteral t n nv v = ltb v nv && (leb 1 (kindOf t (offset t n v)) && leb (kindOf t (offset t n v)) 4)
+isLiteral t n nv v = ltb v nv && (leb 1 (valueNo t n v .kind) && leb (valueNo t n v .kind) 4)
 
 -- global i
 abbrev pub globalAt : List ℕ → ℕ → ℕ → ℕ → ℕ

@@ -2,7 +2,7 @@
 ghost use mathlib.Core.Path.{_≡_};
 ghost use Prim.Native.Nat.{_+_, _<_};
 ghost use lib.ListN.{getD};
-ghost use Rattle.tree.specs.Bytes.{u16At, u32At, u64At, nodeAt, kindAt, roleAt, sizeAt, beginAt, endAt, valueAt, lastAt};
+ghost use Rattle.tree.specs.Bytes.{u16At, u32At, u64At, nodeCount, valueCount, globalCount, nodeAt, kindAt, roleAt, sizeAt, beginAt, endAt, valueAt, lastAt};
 
 fn wide(x: u8) -> usize
     ensures { λ r. ⌜ (r ≡ x) × (r < 256) ⌝ }
@@ -39,10 +39,29 @@ pub fn u32_at(s: &[u8], at: usize) -> usize
 }
 
 pub(crate) fn u64_at(s: &[u8], at: usize) -> usize
-    requires { ⌜ at < 34000009 ⌝ }
+    requires { ⌜ at < 4300000009 ⌝ }
     ensures { λ r. ⌜ r ≡ u64At (now (s .entry)) at ⌝ }
 {
     u32_at(s, at) + 4294967296 * u32_at(s, at + 4)
+}
+
+// The header's counts.
+pub fn node_count(t: &[u8]) -> usize
+    ensures { λ r. ⌜ (r ≡ nodeCount (now (t .entry))) × (r < 65536) ⌝ }
+{
+    u16_at(t, 5)
+}
+
+pub fn value_count(t: &[u8]) -> usize
+    ensures { λ r. ⌜ (r ≡ valueCount (now (t .entry))) × (r < 65536) ⌝ }
+{
+    u16_at(t, 7)
+}
+
+pub fn global_count(t: &[u8]) -> usize
+    ensures { λ r. ⌜ (r ≡ globalCount (now (t .entry))) × (r < 65536) ⌝ }
+{
+    u16_at(t, 9)
 }
 
 // Fields of node i.

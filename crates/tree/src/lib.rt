@@ -1,5 +1,6 @@
 // The tree file of document 01: any bytes are judged, and are a valid tree or refused by number and place.
-// Cost: linear in the bytes; 4 KiB of arrays on the stack (parents and depths, two bytes a node).
+// Cost of judge: linear in the bytes; 4 KiB of arrays on the stack (parents and depths, two bytes a node).
+// What a pass asks of the values of a file that was judged is in lookup and keys, with its cost there.
 ghost use mathlib.Core.Path.{_≡_};
 ghost use Prim.Native.Nat.{_≤_};
 ghost use Rattle.tree.specs.Judge.{numberOf, placeOf, marked, listed, limits, judged9, judged8, judged7, judged6, judged5, judged4, judged3, judged, None5, None6};
@@ -11,10 +12,12 @@ use nodes::parents;
 use values::count_names;
 use values::first5;
 use values::first9;
-use values::values_end;
+use values::offset_of;
 
 pub mod bytes;
 pub mod children;
+pub mod keys;
+pub mod lookup;
 mod nodes;
 mod values;
 
@@ -82,6 +85,12 @@ pub enum Judged {
     Refused(Refusal),
 }
 
+// Key equality. Ordinary: whole floats of i32 are integers. Strict: whole floats below 2^53 are.
+pub enum Mode {
+    Ordinary,
+    Strict,
+}
+
 fn refused(why: Refusal) -> Judged
     ensures { λ r. ⌜ r ≡ Judged.Refused why ⌝ }
 {
@@ -102,7 +111,7 @@ fn judge9(t: &[u8], n: usize, nv: usize, g: usize) -> Judged
     ensures { λ r. ⌜ r ≡ judged9 (now (t .entry)) n nv g ⌝ }
 {
     let names = count_names(t, n, nv);
-    let at = values_end(t, n, nv);
+    let at = offset_of(t, n, nv);
     let count = listed_of(g);
     let p = first9(t, n, nv, at, names, count);
     if p < count {
@@ -168,7 +177,7 @@ fn judge4(t: &[u8], n: usize, nv: usize, g: usize) -> Judged
     requires { ⌜ (n ≤ 1024) × (nv ≤ 512) × (listed g ≤ 512) × (1 ≤ n) ⌝ }
     ensures { λ r. ⌜ r ≡ judged4 (now (t .entry)) n nv g ⌝ }
 {
-    if values_end(t, n, nv) + 2 * listed_of(g) == t.len() {
+    if offset_of(t, n, nv) + 2 * listed_of(g) == t.len() {
         return judge5(t, n, nv, g);
     }
     refused(Refusal::Sections)

@@ -1,8 +1,9 @@
 // The table of values and the globals: refusals 5 and 9.
 ghost use mathlib.Core.Path.{_≡_};
-ghost use Prim.Native.Nat.{_<_, _≤_};
+ghost use Prim.Native.Nat.{_+_, _*_, _<_, _≤_};
 ghost use Rattle.tree.specs.Search.{lowest};
-ghost use Rattle.tree.specs.Values.{offset, formed, bytesLess, ordered, bad5, bad9, integerOk, floatOk};
+ghost use Rattle.tree.specs.Values.{offset, bad5, bad9};
+ghost use Rattle.tree.specs.Offsets.{formedAt, bytesLess, orderedAt, integerOk, floatOk};
 ghost use Rattle.tree.specs.Judge.{namesOf, None5};
 use crate::bytes::byte_at;
 use crate::bytes::u16_at;
@@ -41,7 +42,7 @@ fn float_ok(t: &[u8], o: usize) -> bool
 
 fn formed_at(t: &[u8], o: usize) -> bool
     requires { ⌜ o < 34000000 ⌝ }
-    ensures { λ r. ⌜ r ≡ formed (now (t .entry)) o ⌝ }
+    ensures { λ r. ⌜ r ≡ formedAt (now (t .entry)) o ⌝ }
 {
     let len = u16_at(t, o + 1);
     let kind = byte_at(t, o);
@@ -87,7 +88,7 @@ fn bytes_less(t: &[u8], k: usize, a: usize, b: usize) -> bool
 
 fn in_order(t: &[u8], a: usize, b: usize) -> bool
     requires { ⌜ (a < 34000000) × (b < 34000000) ⌝ }
-    ensures { λ r. ⌜ r ≡ ordered (now (t .entry)) a b ⌝ }
+    ensures { λ r. ⌜ r ≡ orderedAt (now (t .entry)) a b ⌝ }
 {
     let ka = byte_at(t, a);
     let kb = byte_at(t, b);
@@ -108,14 +109,14 @@ fn in_order(t: &[u8], a: usize, b: usize) -> bool
     bytes_less(t, la, a + 3, b + 3)
 }
 
-// Where the values end.
-pub(crate) fn values_end(t: &[u8], n: usize, nv: usize) -> usize
-    requires { ⌜ (n ≤ 1024) × (nv ≤ 512) ⌝ }
-    ensures { λ r. ⌜ (r ≡ offset (now (t .entry)) n nv) × (r < 34000000) ⌝ }
+// Where value v starts; where the values end, if v is their number.
+pub(crate) fn offset_of(t: &[u8], n: usize, v: usize) -> usize
+    requires { ⌜ (n < 65536) × (v < 65536) ⌝ }
+    ensures { λ r. ⌜ (r ≡ offset (now (t .entry)) n v) × (r ≤ 11 + 16 * n + 65538 * v) ⌝ }
 {
     let mut at = 11 + 16 * n;
     let mut i = 0;
-    while i < nv {
+    while i < v {
         at = at + 3 + u16_at(t, at + 1);
         i += 1;
     }

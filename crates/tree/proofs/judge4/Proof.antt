@@ -9,8 +9,8 @@ use Rattle.tree.specs.Judge.{listed, judged4}
 use Rattle.tree.proofs.judge4.Statement.{statement}
 use Rattle.tree.proofs.judge4.Tie as tie
 
-values-end-requires : tie.Need-values-end-requires
-values-end-requires c κs = search needs
+offset-of-requires : tie.Need-offset-of-requires
+offset-of-requires c κs = search needs
 
 listed-of-requires : tie.Need-listed-of-requires
 listed-of-requires c κs = search needs
@@ -27,7 +27,7 @@ judge5-requires c κs = search needs
 returns : tie.Need-returns
 unfolding judged4
 returns c =
-    let q : offset (c .before .before .before .before .before .args .t .now) (c .before .before .before .before .before .args .n) (c .before .before .before .before .before .args .nv) + 2 * listed (c .before .before .before .before .before .args .g) ≡ length (c .before .before .before .before .before .args .t .now) = omega (arith, c .before .before .before .values-end .ensures .0, c .before .before .listed-of .ensures, (c .before .if1 .taken)) in
+    let q : offset (c .before .before .before .before .before .args .t .now) (c .before .before .before .before .before .args .n) (c .before .before .before .before .before .args .nv) + 2 * listed (c .before .before .before .before .before .args .g) ≡ length (c .before .before .before .before .before .args .t .now) = omega (arith, c .before .before .before .offset-of .ensures .0, c .before .before .listed-of .ensures, (c .before .if1 .taken)) in
     c .judge5 .ensures ∙ simp (eq-eqb _ _ q)
 
 refused-requires : tie.Need-refused-requires
@@ -36,14 +36,14 @@ refused-requires c κs = search needs
 returns-2 : tie.Need-returns-2
 unfolding judged4
 returns-2 c =
-    let q = ne-eqb (offset (c .before .before .before .before .before .args .t .now) (c .before .before .before .before .before .args .n) (c .before .before .before .before .before .args .nv) + 2 * listed (c .before .before .before .before .before .args .g)) (length (c .before .before .before .before .before .args .t .now)) (λ w. (c .before .if1 .left) (omega (arith, w, c .before .before .before .values-end .ensures .0, c .before .before .listed-of .ensures))) in
+    let q = ne-eqb (offset (c .before .before .before .before .before .args .t .now) (c .before .before .before .before .before .args .n) (c .before .before .before .before .before .args .nv) + 2 * listed (c .before .before .before .before .before .args .g)) (length (c .before .before .before .before .before .args .t .now)) (λ w. (c .before .if1 .left) (omega (arith, w, c .before .before .before .offset-of .ensures .0, c .before .before .listed-of .ensures))) in
     c .refused .ensures ∙ simp q
 
 pub judge4-spec : {M : Type 1} → statement M
 judge4-spec =
     tie.close
     (tie.spec
-    values-end-requires
+    offset-of-requires
     listed-of-requires
     mul-if1
     add-if1

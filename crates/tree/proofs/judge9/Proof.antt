@@ -12,15 +12,15 @@ use Rattle.tree.proofs.judge9.Tie as tie
 count-names-requires : tie.Need-count-names-requires
 count-names-requires c κs = search needs
 
-values-end-requires : tie.Need-values-end-requires
-values-end-requires c κs = search needs
+offset-of-requires : tie.Need-offset-of-requires
+offset-of-requires c κs = search needs
 
 listed-of-requires : tie.Need-listed-of-requires
 listed-of-requires c κs = search needs
 
 first9-requires : tie.Need-first9-requires
 first9-requires c κs =
-    (omega (arith, c .listed-of .ensures, c .before .before .before .before .pre .2), omega (arith, c .before .values-end .ensures .1), c .before .values-end .ensures .0, c .before .before .count-names .ensures, c .before .before .before .before .pre .4)
+    (omega (arith, c .listed-of .ensures, c .before .before .before .before .pre .2), omega (arith, c .before .offset-of .ensures .1), c .before .offset-of .ensures .0, c .before .before .count-names .ensures, c .before .before .before .before .pre .4)
 
 refused-requires : tie.Need-refused-requires
 refused-requires c κs = search needs
@@ -37,14 +37,14 @@ unfolding judged9 factsOf
 returns-2 c =
     let e : c .before .first9 .result ≡ lowest (listed ((c .before .before .before .before .before .before .args .g))) (bad9 ((c .before .before .before .before .before .before .args .t .now)) ((c .before .before .before .before .before .before .args .n)) ((c .before .before .before .before .before .before .args .nv))) = rw (c .before .before .listed-of .ensures) at (c .before .first9 .ensures) in
     let l : listed ((c .before .before .before .before .before .before .args .g)) ≤ c .before .first9 .result = omega (arith, c .before .before .listed-of .ensures, (c .if1 .left)) in
-    rw (← e) (simp (le-ltb _ _ l) (cc (c .before .before .before .before .count-names .ensures, c .before .before .before .values-end .ensures .0)))
+    rw (← e) (simp (le-ltb _ _ l) (cc (c .before .before .before .before .count-names .ensures, c .before .before .before .offset-of .ensures .0)))
 
 pub judge9-spec : {M : Type 1} → statement M
 judge9-spec =
     tie.close
     (tie.spec
     count-names-requires
-    values-end-requires
+    offset-of-requires
     listed-of-requires
     first9-requires
     refused-requires

@@ -6,7 +6,8 @@ use mathlib.Core.Path.{_≡_, refl, sym, _∙_}
 use mathlib.Core.Logic.{⊎-elim}
 use mathlib.Core.Bool.{true, false}
 use Rattle.tree.specs.Search.{first, lowest}
-use Rattle.tree.specs.Values.{offset, formed, ordered, bad5}
+use Rattle.tree.specs.Values.{offset, bad5}
+use Rattle.tree.specs.Offsets.{formedAt, orderedAt}
 use Rattle.tree.proofs.Search.{first-start, first-here, first-next, first-end}
 use Rattle.tree.proofs.ValueLaws.{offset-next, offset-start}
 use Rattle.tree.proofs.Names.{five-form, five-order, five-ok, five-first}
@@ -35,7 +36,7 @@ formed-at-requires c κs = search needs
 returns : tie.Need-returns Inv-loop μ-loop
 returns c =
     let f = c .before .before .before .loop .inv .1 .1 .1 .0 in
-    let z : formed ((c .before .before .before .before .before .args .t .now)) (offset ((c .before .before .before .before .before .args .t .now)) ((c .before .before .before .before .before .args .n)) (c .before .before .before .loop .i)) ≡ false = rw f at (sym (c .before .formed-at .ensures) ∙ not-true (c .before .formed-at .result) (c .if1 .taken)) in
+    let z : formedAt ((c .before .before .before .before .before .args .t .now)) (offset ((c .before .before .before .before .before .args .t .now)) ((c .before .before .before .before .before .args .n)) (c .before .before .before .loop .i)) ≡ false = rw f at (sym (c .before .formed-at .ensures) ∙ not-true (c .before .formed-at .result) (c .if1 .taken)) in
     sym (first-here ((c .before .before .before .before .before .args .nv)) (c .before .before .before .loop .i) (bad5 ((c .before .before .before .before .before .args .t .now)) ((c .before .before .before .before .before .args .n))) (omega arith) (five-form ((c .before .before .before .before .before .args .t .now)) ((c .before .before .before .before .before .args .n)) (c .before .before .before .loop .i) z)) ∙ c .before .before .before .loop .inv .1 .1 .1 .1 .1
 
 in-order-requires : tie.Need-in-order-requires Inv-loop μ-loop
@@ -45,8 +46,8 @@ returns-2 : tie.Need-returns-2 Inv-loop μ-loop
 returns-2 c =
     let f = c .before .before .before .before .before .before .loop .inv .1 .1 .1 .0 in
     let g = c .before .before .before .before .before .before .loop .inv .1 .1 .1 .1 .0 (c .before .before .if2 .taken) in
-    let z : formed ((c .before .before .before .before .before .before .before .before .args .t .now)) (offset ((c .before .before .before .before .before .before .before .before .args .t .now)) ((c .before .before .before .before .before .before .before .before .args .n)) (c .before .before .before .before .before .before .loop .i)) ≡ true = rw f at (sym (c .before .before .before .before .formed-at .ensures) ∙ not-false (c .before .before .before .before .formed-at .result) (c .before .before .before .if1 .left)) in
-    let o : ordered ((c .before .before .before .before .before .before .before .before .args .t .now)) (offset ((c .before .before .before .before .before .before .before .before .args .t .now)) ((c .before .before .before .before .before .before .before .before .args .n)) ((c .before .before .before .before .before .before .loop .i) - 1)) (offset ((c .before .before .before .before .before .before .before .before .args .t .now)) ((c .before .before .before .before .before .before .before .before .args .n)) (c .before .before .before .before .before .before .loop .i)) ≡ false = rw (g, f) at (sym (c .before .in-order .ensures) ∙ not-true (c .before .in-order .result) (c .if3 .taken)) in
+    let z : formedAt ((c .before .before .before .before .before .before .before .before .args .t .now)) (offset ((c .before .before .before .before .before .before .before .before .args .t .now)) ((c .before .before .before .before .before .before .before .before .args .n)) (c .before .before .before .before .before .before .loop .i)) ≡ true = rw f at (sym (c .before .before .before .before .formed-at .ensures) ∙ not-false (c .before .before .before .before .formed-at .result) (c .before .before .before .if1 .left)) in
+    let o : orderedAt ((c .before .before .before .before .before .before .before .before .args .t .now)) (offset ((c .before .before .before .before .before .before .before .before .args .t .now)) ((c .before .before .before .before .before .before .before .before .args .n)) ((c .before .before .before .before .before .before .loop .i) - 1)) (offset ((c .before .before .before .before .before .before .before .before .args .t .now)) ((c .before .before .before .before .before .before .before .before .args .n)) (c .before .before .before .before .before .before .loop .i)) ≡ false = rw (g, f) at (sym (c .before .in-order .ensures) ∙ not-true (c .before .in-order .result) (c .if3 .taken)) in
     sym (first-here ((c .before .before .before .before .before .before .before .before .args .nv)) (c .before .before .before .before .before .before .loop .i) (bad5 ((c .before .before .before .before .before .before .before .before .args .t .now)) ((c .before .before .before .before .before .before .before .before .args .n))) (omega arith) (five-order ((c .before .before .before .before .before .before .before .before .args .t .now)) ((c .before .before .before .before .before .before .before .before .args .n)) (c .before .before .before .before .before .before .loop .i) z (c .before .before .if2 .taken) o)) ∙ c .before .before .before .before .before .before .loop .inv .1 .1 .1 .1 .1
 
 add-at-2 : tie.Need-add-at-2 Inv-loop μ-loop
@@ -72,10 +73,10 @@ loop-again c =
     let f = c .before .before .before .before .before .loop .inv .1 .1 .1 .0 in
     let e = c .u16-at .ensures .0 in
     let q : (c .before .before .before .before .before .loop .i) + 1 - 1 ≡ (c .before .before .before .before .before .loop .i) = omega arith in
-    let z : formed ((c .before .before .before .before .before .before .before .args .t .now)) (offset ((c .before .before .before .before .before .before .before .args .t .now)) ((c .before .before .before .before .before .before .before .args .n)) (c .before .before .before .before .before .loop .i)) ≡ true = rw f at (sym (c .before .before .before .formed-at .ensures) ∙ not-false (c .before .before .before .formed-at .result) (c .before .before .if1 .left)) in
+    let z : formedAt ((c .before .before .before .before .before .before .before .args .t .now)) (offset ((c .before .before .before .before .before .before .before .args .t .now)) ((c .before .before .before .before .before .before .before .args .n)) (c .before .before .before .before .before .loop .i)) ≡ true = rw f at (sym (c .before .before .before .formed-at .ensures) ∙ not-false (c .before .before .before .formed-at .result) (c .before .before .if1 .left)) in
     let y : bad5 ((c .before .before .before .before .before .before .before .args .t .now)) ((c .before .before .before .before .before .before .before .args .n)) (c .before .before .before .before .before .loop .i) ≡ false =
     ⊎-elim (λ w. let g = c .before .before .before .before .before .loop .inv .1 .1 .1 .1 .0 (w .0 .taken) in
-    let o : ordered ((c .before .before .before .before .before .before .before .args .t .now)) (offset ((c .before .before .before .before .before .before .before .args .t .now)) ((c .before .before .before .before .before .before .before .args .n)) ((c .before .before .before .before .before .loop .i) - 1)) (offset ((c .before .before .before .before .before .before .before .args .t .now)) ((c .before .before .before .before .before .before .before .args .n)) (c .before .before .before .before .before .loop .i)) ≡ true = rw (g, f) at (sym (w .1 .ensures) ∙ not-false (w .1 .result) (w .2 .left)) in five-ok ((c .before .before .before .before .before .before .before .args .t .now)) ((c .before .before .before .before .before .before .before .args .n)) (c .before .before .before .before .before .loop .i) z o)
+    let o : orderedAt ((c .before .before .before .before .before .before .before .args .t .now)) (offset ((c .before .before .before .before .before .before .before .args .t .now)) ((c .before .before .before .before .before .before .before .args .n)) ((c .before .before .before .before .before .loop .i) - 1)) (offset ((c .before .before .before .before .before .before .before .args .t .now)) ((c .before .before .before .before .before .before .before .args .n)) (c .before .before .before .before .before .loop .i)) ≡ true = rw (g, f) at (sym (w .1 .ensures) ∙ not-false (w .1 .result) (w .2 .left)) in five-ok ((c .before .before .before .before .before .before .before .args .t .now)) ((c .before .before .before .before .before .before .before .args .n)) (c .before .before .before .before .before .loop .i) z o)
     (λ w. five-first ((c .before .before .before .before .before .before .before .args .t .now)) ((c .before .before .before .before .before .before .before .args .n)) (c .before .before .before .before .before .loop .i) z (w .left)) (c .before .if2 .came) in
     (search needs, (omega arith, (omega arith, (rw offset-next (rw (← f) (rw (← e) refl)), ((λ h. rw q f), first-next ((c .before .before .before .before .before .before .before .args .nv)) (c .before .before .before .before .before .loop .i) (bad5 ((c .before .before .before .before .before .before .before .args .t .now)) ((c .before .before .before .before .before .before .before .args .n))) (omega arith) y ∙ c .before .before .before .before .before .loop .inv .1 .1 .1 .1 .1)))))
 

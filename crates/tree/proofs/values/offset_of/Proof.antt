@@ -1,17 +1,19 @@
+-- The invariant: at is where value i starts.
 use borrow.Author.Needs.{needs}
 use Prim.Native.Nat.{_+_, _*_, _-_, _≤_}
 use native.Mathlib.Omega.{arith}
 use mathlib.Core.Path.{_≡_, refl, sym}
 use Rattle.tree.specs.Values.{offset}
+use Rattle.tree.specs.Table.{at}
 use Rattle.tree.proofs.ValueLaws.{offset-next, offset-start}
-use Rattle.tree.proofs.values.values_end.Statement.{statement}
-use Rattle.tree.proofs.values.values_end.Tie as tie
+use Rattle.tree.proofs.values.offset_of.Statement.{statement}
+use Rattle.tree.proofs.values.offset_of.Tie as tie
 
 abbrev Inv-loop : tie.InvT-loop
-Inv-loop t n nv at₀ i₀ at i = (i ≤ nv) × ((at ≤ 16395 + 65538 * i) × (at ≡ offset t n i))
+Inv-loop t n v at₀ i₀ at i = (i ≤ v) × ((at ≤ 11 + 16 * n + 65538 * i) × (at ≡ offset t n i))
 
 abbrev μ-loop : tie.MeasureT-loop
-μ-loop t n nv at₀ i₀ at i = nv - i
+μ-loop t n v at₀ i₀ at i = v - i
 
 mul-at : tie.Need-mul-at Inv-loop μ-loop
 mul-at c = search needs
@@ -21,7 +23,9 @@ add-at c = search needs
 
 loop-holds : tie.Need-loop-holds Inv-loop μ-loop
 loop-holds c =
-    (search needs, (search needs, sym (offset-start ((c .before .args .t .now)) ((c .before .args .n)))))
+    let t = c .before .args .t .now in
+    let n = c .before .args .n in
+    (search needs, (search needs, sym (offset-start t n)))
 
 add-at-2 : tie.Need-add-at-2 Inv-loop μ-loop
 add-at-2 c = search needs
@@ -47,10 +51,12 @@ loop-again c =
 
 returns : tie.Need-returns Inv-loop μ-loop
 returns c =
-    let f = c .before .loop .inv .1 .1 in let q : (c .before .loop .i) ≡ ((c .before .before .before .args .nv)) = omega arith in (rw q at f, omega arith)
+    let v = c .before .before .before .args .v in
+    let i = c .before .loop .i in
+    let f = c .before .loop .inv .1 .1 in let q : i ≡ v = omega arith in (rw q at f, omega arith)
 
-pub values-end-spec : {M : Type 1} → statement M
-values-end-spec =
+pub offset-of-spec : {M : Type 1} → statement M
+offset-of-spec =
     tie.close
     (tie.spec
     Inv-loop

@@ -1,0 +1,174 @@
+-- In a valid file two keys are the same exactly if the numbers that stand for them are. Assumes nothing.
+use Prim.Native.Nat.{ℕ, _+_, _<_}
+use native.Mathlib.Omega.{arith}
+use native.Mathlib.Decide.{decLt}
+use mathlib.Core.Path.{_≡_, refl, sym, ap, subst, _∙_}
+use mathlib.Core.List.{List}
+use mathlib.Core.Logic.{_↔_}
+use mathlib.Core.Bool.{Bool, true, false, cond, _&&_}
+use mathlib.Core.Option.{Option, none, some, Option·none-ne-some, Option·some-injective}
+use lib.Dec.{T, eqb, leb, eqb→eq}
+use lib.ListN.{length, getD}
+use borrow.Author.Tests.{eq-eqb, ne-eqb, eqb-true}
+use Rattle.tree.specs.Bytes.{u16At, nodeCount, valueCount}
+use Rattle.tree.specs.Search.{lowest}
+use Rattle.tree.specs.Values.{Value, sense, a-name, a-text, an-integer, a-float, unknown, magnitude, little, form-as, formed, offset}
+use Rattle.tree.specs.Judge.{judged}
+use Rattle.tree.specs.declared.Mode.{Mode}
+use Rattle.tree.specs.declared.Facts.{Facts}
+use Rattle.tree.specs.declared.Judged.the-variants.{Valid}
+use Rattle.tree.specs.Keys.{whole, counted, number-as, number, same-key}
+use Rattle.tree.specs.Table.{tableOf, at, below-or, integer-is, is-integer, if-so, float-number, lead, key-number}
+use Rattle.tree.proofs.Search.{clash, lowest-clear, lowest-hit, lowest-le}
+use Rattle.tree.proofs.TableLaws.{length-table, at-table, below-found, below-none}
+use Rattle.tree.proofs.KeyLaws.{all-bytes, and-left, and-right, both, Same, by-form, by-number, same-means, means-same, same-refl, same-sym, same-trans, one-form}
+use Rattle.tree.proofs.ValidTable.{value-formed, one-number, bytes-from}
+
+so : {b : Bool} → b ≡ true → T b
+so e = subst T (sym e) tt
+
+is-so : (b : Bool) → T b → b ≡ true
+is-so true t = refl
+is-so false t = absurd t
+
+-- what a value that has a number is: an integer of that magnitude, or a float that counts as it
+data Number (m : Mode) (v : Value) (n : ℕ) : Type 0 where
+  whole-number : v .kind ≡ 3 → T (integer-is n v) → Number m v n
+  counted-float : v .kind ≡ 4 → float-number m v ≡ some n → Number m v n
+
+as-number : (m : Mode) (v : Value) (n : ℕ) → T (formed v) → number m v ≡ some n → Number m v n
+unfolding formed
+as-number m v n f e = go (eqb (v .kind) 0) (leb (v .kind) 2) (eqb (v .kind) 3) refl (eqb (v .kind) 4) refl (and-right (leb (length (v .bytes)) 255) (form-as (sense (v .kind)) (v .bytes)) f) e
+  where
+    go : (a b c : Bool) → eqb (v .kind) 3 ≡ c → (d : Bool) → eqb (v .kind) 4 ≡ d
+        → T (form-as (cond a a-name (cond b a-text (cond c an-integer (cond d a-float unknown)))) (v .bytes))
+        → number-as m (cond a a-name (cond b a-text (cond c an-integer (cond d a-float unknown)))) (v .bytes) ≡ some n → Number m v n
+    go true b c p d q f e = absurd (Option·none-ne-some n e)
+    go false true c p d q f e = absurd (Option·none-ne-some n e)
+    go false false true p d q f e = whole-number (eqb-true (v .kind) 3 p)
+        (both (eqb (v .kind) 3) (eqb (magnitude (v .bytes)) n) (so p) (so (eq-eqb _ _ (Option·some-injective (magnitude (v .bytes)) n e))))
+    go false false false p true q f e = counted-float (eqb-true (v .kind) 4 q)
+        (rw (q, is-so (eqb (length (v .bytes)) 8) (and-left (eqb (length (v .bytes)) 8) _ f)) e)
+    go false false false p false q f e = absurd (Option·none-ne-some n e)
+
+integer-number : (m : Mode) (v : Value) (n : ℕ) → T (integer-is n v) → (v .kind ≡ 3) × (number m v ≡ some n)
+integer-number m v n t =
+    let k = eqb→eq (v .kind) 3 (and-left (eqb (v .kind) 3) (eqb (magnitude (v .bytes)) n) t) in
+    let e = eqb→eq (magnitude (v .bytes)) n (and-right (eqb (v .kind) 3) (eqb (magnitude (v .bytes)) n) t) in
+    (k, ap (λ (x : ℕ). number-as m (sense x) (v .bytes)) k ∙ ap {B = Option ℕ} some e)
+
+float-counts : (m : Mode) (v : Value) (n : ℕ) → float-number m v ≡ some n → number m v ≡ some n
+float-counts m v n e = go (eqb (v .kind) 4) refl (eqb (length (v .bytes)) 8) e
+  where
+    go : (a : Bool) → eqb (v .kind) 4 ≡ a → (b : Bool) → if-so (a && b) (counted m (whole (little (v .bytes)))) ≡ some n → number m v ≡ some n
+    go true p true e = ap (λ (x : ℕ). number-as m (sense x) (v .bytes)) (eqb-true (v .kind) 4 p) ∙ e
+    go true p false e = absurd (Option·none-ne-some n e)
+    go false p b e = absurd (Option·none-ne-some n e)
+
+no-float : (m : Mode) (v : Value) → v .kind ≡ 3 → float-number m v ≡ none
+no-float m v k = rw k
+
+module _ (t : List ℕ) (f : Facts) (valid : judged t ≡ Valid f) (bytes : (k : ℕ) → getD t k 0 < 256) (m : Mode) where
+  vs : List Value
+  vs = tableOf t
+
+  -- of one kind, only one value number
+  alone : (a b : ℕ) → a < valueCount t → b < valueCount t → at vs a .kind ≡ at vs b .kind → T (same-key m (at vs a) (at vs b)) → a ≡ b
+  unfolding vs
+  alone a b h k e s = one-number t f valid a b h k
+      (one-form m (at vs a) (at vs b) (value-formed t f valid a h) (value-formed t f valid b k) (fit a h) (fit b k) e s)
+    where
+      fit : (i : ℕ) → i < valueCount t → T (all-bytes (at vs i .bytes))
+      fit i l = rw (at-table t i l) (bytes-from t bytes (u16At t (offset t (nodeCount t) i + 1)) (offset t (nodeCount t) i + 3))
+
+  -- a float goes to the integer that it counts as, if the table has that
+  data Led (v : ℕ) : Type 0 where
+    own : key-number m vs v ≡ v → Led v
+    led : (n : ℕ) → float-number m (at vs v) ≡ some n → key-number m vs v < valueCount t → T (integer-is n (at vs (key-number m vs v))) → Led v
+
+  lead-to : (v n : ℕ) → float-number m (at vs v) ≡ some n → key-number m vs v ≡ below-or (lowest (valueCount t) (is-integer vs n)) (valueCount t) v
+  unfolding vs key-number
+  lead-to v n e = ap (lead vs v) e ∙ ap (λ (k : ℕ). below-or (lowest k (is-integer vs n)) k v) (length-table t)
+
+  lead-own : (v : ℕ) → float-number m (at vs v) ≡ none → key-number m vs v ≡ v
+  unfolding key-number
+  lead-own v e = ap (lead vs v) e
+
+  leading : (v : ℕ) → Led v
+  leading v = go (float-number m (at vs v)) refl
+    where
+      go : (o : Option ℕ) → float-number m (at vs v) ≡ o → Led v
+      go none e = own (lead-own v e)
+      go (some n) e = found (decLt (lowest (valueCount t) (is-integer vs n)) (valueCount t))
+        where
+          found : Dec (lowest (valueCount t) (is-integer vs n) < valueCount t) → Led v
+          found (yes l) =
+              let q : key-number m vs v ≡ lowest (valueCount t) (is-integer vs n) = lead-to v n e ∙ below-found (valueCount t) _ v (is-integer vs n) refl l in
+              led n e (rw q l) (rw q (so (lowest-hit (valueCount t) (is-integer vs n) l)))
+          found (no l) = own (lead-to v n e ∙ below-none (valueCount t) v (is-integer vs n) (let h = lowest-le (valueCount t) (is-integer vs n) in omega arith))
+
+  stands : (v : ℕ) → T (same-key m (at vs v) (at vs (key-number m vs v)))
+  stands v = go (leading v)
+    where
+      go : Led v → T (same-key m (at vs v) (at vs (key-number m vs v)))
+      go (own e) = rw e (same-refl m (at vs v))
+      go (led n e h i) = means-same m (at vs v) (at vs (key-number m vs v)) (by-number n (float-counts m (at vs v) n e) (integer-number m (at vs (key-number m vs v)) n i .1))
+
+  integer-own : (a : ℕ) → at vs a .kind ≡ 3 → key-number m vs a ≡ a
+  integer-own a k = go (leading a)
+    where
+      go : Led a → key-number m vs a ≡ a
+      go (own e) = e
+      go (led n e h i) = absurd (Option·none-ne-some n (sym (no-float m (at vs a) k) ∙ e))
+
+  -- an integer of the table, and a float that counts as it
+  meets : (a b n : ℕ) → a < valueCount t → T (integer-is n (at vs a)) → float-number m (at vs b) ≡ some n → key-number m vs b ≡ a
+  meets a b n h i e =
+      let l : lowest (valueCount t) (is-integer vs n) < valueCount t = early (decLt a (lowest (valueCount t) (is-integer vs n))) in
+      let u = lowest (valueCount t) (is-integer vs n) in
+      let j = so (lowest-hit (valueCount t) (is-integer vs n) l) in
+      let x = integer-number m (at vs u) n j in
+      let y = integer-number m (at vs a) n i in
+      lead-to b n e ∙ below-found (valueCount t) u b (is-integer vs n) refl l
+      ∙ alone u a l h (x .0 ∙ sym (y .0)) (means-same m (at vs u) (at vs a) (by-number n (x .1) (y .1)))
+    where
+      early : Dec (a < lowest (valueCount t) (is-integer vs n)) → lowest (valueCount t) (is-integer vs n) < valueCount t
+      early (yes r) = clash (is-so _ i) (lowest-clear (valueCount t) (is-integer vs n) a r)
+      early (no r) = omega arith
+
+  same-number-of : (a b : ℕ) → a < valueCount t → b < valueCount t → T (same-key m (at vs a) (at vs b)) → key-number m vs a ≡ key-number m vs b
+  unfolding vs
+  same-number-of a b h k s = go (same-means m (at vs a) (at vs b) s)
+    where
+      equal : a ≡ b → key-number m vs a ≡ key-number m vs b
+      equal e = ap (key-number m vs) e
+
+      cases : (n : ℕ) → Number m (at vs a) n → Number m (at vs b) n → key-number m vs a ≡ key-number m vs b
+      cases n (whole-number p i) (whole-number q j) = equal (alone a b h k (p ∙ sym q) s)
+      cases n (whole-number p i) (counted-float q e) = integer-own a p ∙ sym (meets a b n h i e)
+      cases n (counted-float p e) (whole-number q j) = meets b a n k j e ∙ sym (integer-own b q)
+      cases n (counted-float p d) (counted-float q e) = equal (alone a b h k (p ∙ sym q) s)
+
+      go : Same m (at vs a) (at vs b) → key-number m vs a ≡ key-number m vs b
+      go (by-form e) = equal (one-number t f valid a b h k e)
+      go (by-number n d e) = cases n (as-number m (at vs a) n (value-formed t f valid a h) d) (as-number m (at vs b) n (value-formed t f valid b k) e)
+
+  -- the key test, by the numbers of the table that key_numbers fills
+  pub same-key-number : (a b : ℕ) → a < valueCount t → b < valueCount t
+      → same-key m (at (tableOf t) a) (at (tableOf t) b) ≡ eqb (key-number m (tableOf t) a) (key-number m (tableOf t) b)
+  unfolding vs
+  same-key-number a b h k = decide (same-key m (at vs a) (at vs b)) refl
+    where
+      decide : (x : Bool) → same-key m (at vs a) (at vs b) ≡ x → x ≡ eqb (key-number m vs a) (key-number m vs b)
+      decide true e = sym (eq-eqb _ _ (same-number-of a b h k (so e)))
+      decide false e = sym (ne-eqb _ _ (λ q. clash (is-so _ (joined q)) e))
+        where
+          joined : key-number m vs a ≡ key-number m vs b → T (same-key m (at vs a) (at vs b))
+          joined q = same-trans m (at vs a) (at vs (key-number m vs a)) (at vs b) (stands a)
+              (rw q (same-sym m (at vs b) (at vs (key-number m vs b)) (stands b)))
+
+  -- two keys of one kind are the same exactly if their value numbers are
+  pub one-kind : (a b : ℕ) → a < valueCount t → b < valueCount t → at (tableOf t) a .kind ≡ at (tableOf t) b .kind
+      → T (same-key m (at (tableOf t) a) (at (tableOf t) b)) ↔ (a ≡ b)
+  unfolding vs
+  one-kind a b h k e = (alone a b h k e, λ q. subst (λ (x : ℕ). T (same-key m (at vs a) (at vs x))) q (same-refl m (at vs a)))

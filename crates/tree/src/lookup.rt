@@ -1,0 +1,190 @@
+// The table of values as passes use it: fixed names by their number, traits of a value and globals by tables.
+// Cost: a walk over the values or the globals a call; a table is 512 bytes, filled once and read by value number.
+ghost use mathlib.Core.Path.{_≡_};
+ghost use mathlib.Core.Bool.{not};
+ghost use Prim.Native.Nat.{_<_};
+ghost use lib.Dec.{eqb};
+ghost use lib.ListN.{length};
+ghost use Rattle.tree.specs.Bytes.{nodeCount, globalCount};
+ghost use Rattle.tree.specs.Values.{bytesFrom, valueFrom, offset};
+ghost use Rattle.tree.specs.Keys.{same-bytes};
+ghost use Rattle.tree.specs.Judge.{listed};
+ghost use Rattle.tree.specs.Table.{tableOf, named-so, numberNamed, underscored, a-string, is-global, Traits};
+use crate::bytes::byte_at;
+use crate::bytes::global_count;
+use crate::bytes::node_count;
+use crate::bytes::u16_at;
+use crate::bytes::value_count;
+use crate::values::offset_of;
+
+// The bytes from o on are those of name.
+fn bytes_are(t: &[u8], o: usize, name: &[u8]) -> bool
+    requires { ⌜ (length (now name) < 65536) × (o < 4400000000) ⌝ }
+    ensures { λ r. ⌜ r ≡ same-bytes (bytesFrom (length (now (name .entry))) (now (t .entry)) o) (now (name .entry)) ⌝ }
+{
+    let mut i = 0;
+    while i < name.len() {
+        if byte_at(t, o + i) != byte_at(name, i) {
+            return false;
+        }
+        i += 1;
+    }
+    true
+}
+
+// The value at o is the name of these bytes.
+fn spelled_at(t: &[u8], o: usize, name: &[u8]) -> bool
+    requires { ⌜ o < 4300000000 ⌝ }
+    ensures { λ r. ⌜ r ≡ named-so (now (name .entry)) (valueFrom (now (t .entry)) o) ⌝ }
+{
+    if byte_at(t, o) != 0 {
+        return false;
+    }
+    if u16_at(t, o + 1) != name.len() {
+        return false;
+    }
+    bytes_are(t, o + 3, name)
+}
+
+// The number of the name of these bytes; 65536, which is no value's number, where the file has no such name.
+pub fn number_of(t: &[u8], name: &[u8]) -> usize
+    ensures { λ r. ⌜ r ≡ numberNamed (now (t .entry)) (now (name .entry)) ⌝ }
+{
+    let nv = value_count(t);
+    let mut at = 11 + 16 * node_count(t);
+    let mut v = 0;
+    while v < nv {
+        if spelled_at(t, at, name) {
+            return v;
+        }
+        at = at + 3 + u16_at(t, at + 1);
+        v += 1;
+    }
+    65536
+}
+
+// Value v, which starts at o, is a name that begins with an underscore.
+fn underscored_at(t: &[u8], v: usize, o: usize) -> bool
+    requires { ⌜ (o < 4300000000) × (o ≡ offset (now t) (nodeCount (now t)) v) ⌝ }
+    ensures { λ r. ⌜ r ≡ underscored (tableOf (now (t .entry))) v ⌝ }
+{
+    if value_count(t) <= v {
+        return false;
+    }
+    if byte_at(t, o) != 0 {
+        return false;
+    }
+    if u16_at(t, o + 1) < 1 {
+        return false;
+    }
+    byte_at(t, o + 3) == 95
+}
+
+// Value v, which starts at o, is a string.
+fn string_at(t: &[u8], v: usize, o: usize) -> bool
+    requires { ⌜ (o < 4300000000) × (o ≡ offset (now t) (nodeCount (now t)) v) ⌝ }
+    ensures { λ r. ⌜ r ≡ a-string (tableOf (now (t .entry))) v ⌝ }
+{
+    if value_count(t) <= v {
+        return false;
+    }
+    byte_at(t, o) == 1
+}
+
+pub fn begins_underscore(t: &[u8], v: usize) -> bool
+    ensures { λ r. ⌜ r ≡ underscored (tableOf (now (t .entry))) v ⌝ }
+{
+    if value_count(t) <= v {
+        return false;
+    }
+    underscored_at(t, v, offset_of(t, node_count(t), v))
+}
+
+pub fn is_string(t: &[u8], v: usize) -> bool
+    ensures { λ r. ⌜ r ≡ a-string (tableOf (now (t .entry))) v ⌝ }
+{
+    if value_count(t) <= v {
+        return false;
+    }
+    string_at(t, v, offset_of(t, node_count(t), v))
+}
+
+// Which of the values below 512 are names that begin with an underscore.
+pub fn underscores(t: &[u8]) -> [bool; 512]
+    ensures { λ r. ⌜ Traits (underscored (tableOf (now (t .entry)))) r ⌝ }
+{
+    let mut table = [false; 512];
+    let mut at = 11 + 16 * node_count(t);
+    let mut v = 0;
+    while v < 512 {
+        table[v] = underscored_at(t, v, at);
+        at = at + 3 + u16_at(t, at + 1);
+        v += 1;
+    }
+    table
+}
+
+// Which of the values below 512 are strings.
+pub fn strings(t: &[u8]) -> [bool; 512]
+    ensures { λ r. ⌜ Traits (a-string (tableOf (now (t .entry)))) r ⌝ }
+{
+    let mut table = [false; 512];
+    let mut at = 11 + 16 * node_count(t);
+    let mut v = 0;
+    while v < 512 {
+        table[v] = string_at(t, v, at);
+        at = at + 3 + u16_at(t, at + 1);
+        v += 1;
+    }
+    table
+}
+
+pub fn globals_given(t: &[u8]) -> bool
+    ensures { λ r. ⌜ r ≡ not (eqb (globalCount (now (t .entry))) 65535) ⌝ }
+{
+    global_count(t) != 65535
+}
+
+// How many globals the file lists.
+fn globals_listed(t: &[u8]) -> usize
+    ensures { λ r. ⌜ (r ≡ listed (globalCount (now (t .entry)))) × (r < 65536) ⌝ }
+{
+    let g = global_count(t);
+    if g == 65535 {
+        return 0;
+    }
+    g
+}
+
+pub fn is_global(t: &[u8], v: usize) -> bool
+    ensures { λ r. ⌜ r ≡ is-global (now (t .entry)) v ⌝ }
+{
+    let count = globals_listed(t);
+    let from = offset_of(t, node_count(t), value_count(t));
+    let mut i = 0;
+    while i < count {
+        if u16_at(t, from + 2 * i) == v {
+            return true;
+        }
+        i += 1;
+    }
+    false
+}
+
+// Which of the value numbers below 512 the file lists as globals.
+pub fn globals(t: &[u8]) -> [bool; 512]
+    ensures { λ r. ⌜ Traits (is-global (now (t .entry))) r ⌝ }
+{
+    let count = globals_listed(t);
+    let from = offset_of(t, node_count(t), value_count(t));
+    let mut table = [false; 512];
+    let mut i = 0;
+    while i < count {
+        let x = u16_at(t, from + 2 * i);
+        if x < 512 {
+            table[x] = true;
+        }
+        i += 1;
+    }
+    table
+}
