@@ -1,0 +1,284 @@
+-- Demand 3's runs on small trees: what they allow, what they don't, and what each premise keeps out.
+use Prim.Native.Nat.{ℕ, _+_}
+use mathlib.Core.Path.{_≡_, refl, ap}
+use mathlib.Core.Bool.{Bool, true, false, not}
+use mathlib.Core.List.{List, [], _∷_, map, List·Memᴰ, List·Memᴰ·head, List·Memᴰ·tail, List·Memᴰ·not-nil}
+use mathlib.Core.Logic.{inl, inr}
+use mathlib.Core.Option.{none}
+use native.Mathlib.Omega.{arith}
+use lib.Dec.{eqb, T}
+use Rattle.tree.specs.Forest.{Spot, Forest, Forest.none as leaf, node}
+use Rattle.rules.specs.Order.{Stop, bare, fails, Cmd, _⨟_, stop, of-role, takes, body, def-body}
+use Rattle.rules.specs.Names.{names, told}
+use Rattle.rules.specs.Flow.{flow}
+use Rattle.rules.specs.Record.{Rec, Span, no-span, named-at}
+use Rattle.rules.specs.Runs.{at, below, beside, of-module, of-def, Held, nobody, End, through, by, Run, skips, next, cut, uses, sets, breaking, returns, left, right, done, continues, out, apart, Reach, here, first, second}
+use Rattle.rules.specs.Premises.{Premises, names-apart, jumps-in-loops}
+use Rattle.rules.specs.Letter.{Told, Demand3}
+use Rattle.tree.specs.Children.{classOf, slotOf}
+use Rattle.tree.specs.Shape.{valid, root-fits, fitting, kids-fit, all-stand, all-filled, many, in-order, in-pairs, for-first}
+use Rattle.rules.proofs.Demand3.{demand3, demand3-more}
+
+-- nothing after a break, a continue, a return or a call of fail is reached, and a call of fail never finishes
+pub nothing-after : {w : Stop} {b : Cmd} {s : Spot} {σ : Held} → Reach s (stop w ⨟ b) σ → ⊥
+nothing-after (first r) = no-use r
+  where
+    no-use : {w : Stop} {s : Spot} {σ : Held} → Reach s (stop w) σ → ⊥
+    no-use = elim [ ]
+nothing-after (second r q) = no-run r
+  where
+    no-run : {w : Stop} {σ τ : Held} → Run (stop w) σ through τ → ⊥
+    no-run = elim [ ]
+
+pub fail-never-finishes : {e : End} {σ τ : Held} → Run (stop fails) σ e τ → ⊥
+fail-never-finishes (returns t) = t
+
+-- a node of a kind, role, span and value, its children, its later siblings
+abbrev n : ℕ → ℕ → ℕ → ℕ → ℕ → Forest → Forest → Forest
+n k r b e v kids more = node (record { kind = k; role = r; spot = record { begin = b; end = e; value = v } }) kids more
+
+abbrev spot : ℕ → ℕ → ℕ → Spot
+spot b e v = record { begin = b; end = e; value = v }
+
+abbrev span : ℕ → ℕ → Span
+span b e = record { begin = b; end = e }
+
+-- the values, as a file has them: 0 a, 1 c, 2 f, 3 i, 4 xs, 5 None, 6 fail, 7 print, 8 the integer 1
+abbrev is-none : ℕ → Bool
+is-none = eqb 5
+
+abbrev is-fail : ℕ → Bool
+is-fail = eqb 6
+
+-- no name begins with an underscore, no value is a string
+abbrev never : ℕ → Bool
+never x = false
+
+-- statements of a role, from a place on: print(a), a = 1, fail()
+abbrev prints : ℕ → ℕ → Forest → Forest
+prints r b more = n 5 r b (b + 8) 65535 (n 23 4 b (b + 8) 65535 (n 20 7 b (b + 5) 7 leaf (n 20 0 (b + 6) (b + 7) 0 leaf leaf)) leaf) more
+
+abbrev assigns : ℕ → ℕ → Forest → Forest
+assigns r b more = n 6 r b (b + 5) 65535 (n 40 5 b (b + 1) 0 leaf (n 21 4 (b + 4) (b + 5) 8 leaf leaf)) more
+
+abbrev fails-at : ℕ → ℕ → Forest → Forest
+fails-at r b more = n 5 r b (b + 6) 65535 (n 23 4 b (b + 6) 65535 (n 20 7 b (b + 4) 6 leaf leaf) leaf) more
+
+-- break (1), continue (2), pass (3) or a bare return (4); return 1
+abbrev bare-of : ℕ → ℕ → ℕ → Forest → Forest
+bare-of k r b more = n k r b (b + 6) 65535 leaf more
+
+abbrev returns-one : ℕ → ℕ → Forest → Forest
+returns-one r b more = n 4 r b (b + 8) 65535 (n 21 4 (b + 7) (b + 8) 8 leaf leaf) more
+
+abbrev list : ℕ → Forest → Forest
+list r kids = n 8 r 0 90 65535 kids leaf
+
+abbrev if-c : ℕ → ℕ → Forest → Forest → Forest
+if-c r b side more = n 9 r b (b + 12) 65535 (n 20 4 (b + 3) (b + 4) 1 leaf side) more
+
+abbrev if-else-c : ℕ → ℕ → Forest → Forest → Forest
+if-else-c r b sides more = n 10 r b (b + 30) 65535 (n 20 4 (b + 3) (b + 4) 1 leaf sides) more
+
+abbrev for-i : ℕ → ℕ → Forest → Forest → Forest
+for-i r b side more = n 11 r b (b + 50) 65535 (n 40 5 (b + 4) (b + 5) 3 leaf (n 20 4 (b + 9) (b + 11) 4 leaf side)) more
+
+abbrev def-f : ℕ → ℕ → Forest → Forest → Forest
+def-f r b side more = n 12 r b (b + 50) 65535 (n 40 6 (b + 4) (b + 5) 2 leaf side) more
+
+abbrev warnings : Forest → List Rec
+warnings f = map told (names never is-fail none f)
+
+abbrev findings : Forest → List Rec
+findings f = flow is-fail is-none never f
+
+abbrev module-of : Forest → Cmd
+module-of f = body is-fail f
+
+abbrev theorem : (f : Forest) → T (valid f) → Premises f → Demand3 is-fail is-none f (warnings f) (findings f)
+theorem f v p = demand3 is-fail never is-none never none f v p
+
+-- THE USE IS REACHED: print(a); a = 1
+abbrev early : Forest
+early = list 0 (prints 0 0 (assigns 0 10 leaf))
+
+early-valid : T (valid early)
+unfolding valid root-fits fitting kids-fit all-stand all-filled many in-order in-pairs for-first classOf slotOf
+early-valid = tt
+
+early-reached : Reach (spot 6 7 0) (module-of early) nobody
+early-reached = first (first (first (first (second uses (first (here tt))))))
+
+early-told : Told (spot 6 7 0) (warnings early)
+early-told = theorem early early-valid (record { unlike = tt; looped = tt }) .unset of-module (spot 6 7 0) tt early-reached
+
+early-list : warnings early ≡ named-at 4 (spot 6 7 0) ∷ []
+early-list = refl
+
+-- print(a), wherever it stands in a list, reaches its use of a
+printed : (b : ℕ) (more : Forest) {σ : Held} → T (not (σ 0))
+    → Reach (spot (b + 6) (b + 7) 0) (takes is-fail (of-role 0) (prints 0 b more)) σ
+printed b more t = first (first (first (second uses (first (here t)))))
+
+-- A LOOP RUNS NO TIME: for i in xs: a = 1; then print(a)
+abbrev idle : Forest
+idle = list 0 (for-i 0 0 (assigns 1 14 leaf) (prints 0 60 leaf))
+
+idle-valid : T (valid idle)
+unfolding valid root-fits fitting kids-fit all-stand all-filled many in-order in-pairs for-first classOf slotOf
+idle-valid = tt
+
+idle-reached : Reach (spot 66 67 0) (module-of idle) nobody
+idle-reached = first (second (next (next uses skips) done) (printed 60 leaf tt))
+
+idle-told : Told (spot 66 67 0) (warnings idle)
+idle-told = theorem idle idle-valid (record { unlike = tt; looped = tt }) .unset of-module (spot 66 67 0) tt idle-reached
+
+idle-list : warnings idle ≡ named-at 6 (spot 66 67 0) ∷ []
+idle-list = refl
+
+-- A BREAK, A CONTINUE: for i in xs: (if c: break); a = 1; then print(a). The round that it cuts short sets i, and not a.
+abbrev skipping : ℕ → Forest
+skipping k = list 0 (for-i 0 0 (n 8 1 14 50 65535 (if-c 0 14 (bare-of k 1 20 leaf) (assigns 0 30 leaf)) leaf) (prints 0 60 leaf))
+
+break-valid : T (valid (skipping 1))
+unfolding valid root-fits fitting kids-fit all-stand all-filled many in-order in-pairs for-first classOf slotOf
+break-valid = tt
+
+break-reached : Reach (spot 66 67 0) (module-of (skipping 1)) nobody
+break-reached = first (second (next (next uses skips) (out (next (next skips skips)
+    (next (next sets skips) (cut (cut (next (next uses skips) (left (cut breaking)))))))))
+    (printed 60 leaf tt))
+
+continue-reached : Reach (spot 66 67 0) (module-of (skipping 2)) nobody
+continue-reached = first (second (next (next uses skips) (continues (next (next skips skips)
+    (next (next sets skips) (cut (cut (next (next uses skips) (left (cut breaking))))))) done))
+    (printed 60 leaf tt))
+
+break-told : Told (spot 66 67 0) (warnings (skipping 1))
+break-told = theorem (skipping 1) break-valid (record { unlike = tt; looped = tt }) .unset of-module (spot 66 67 0) tt break-reached
+
+-- A DEF IN A LOOP: for i in xs: def f(): a += 1. Its target's name is a use before it is set.
+abbrev nested : Forest
+nested = list 0 (for-i 0 0 (def-f 1 14 (n 7 1 24 30 65535 (n 40 5 24 25 0 leaf (n 21 4 29 30 8 leaf leaf)) leaf) leaf) leaf)
+
+nested-valid : T (valid nested)
+unfolding valid root-fits fitting kids-fit all-stand all-filled many in-order in-pairs for-first classOf slotOf
+nested-valid = tt
+
+nested-told : Told (spot 24 25 0) (warnings nested)
+nested-told = theorem nested nested-valid (record { unlike = tt; looped = tt }) .unset (of-def (below (below (beside (beside at)))) refl)
+    (spot 24 25 0) tt
+    (second skips (first (second (next skips skips) (second (next skips skips) (first (first (here tt)))))))
+
+-- A DEF'S END IS REACHED: def f(): if c: return 1
+abbrev open-end : Forest
+open-end = list 0 (def-f 0 0 (if-c 1 10 (returns-one 1 16 leaf) leaf) leaf)
+
+open-valid : T (valid open-end)
+unfolding valid root-fits fitting kids-fit all-stand all-filled many in-order in-pairs for-first classOf slotOf
+open-valid = tt
+
+open-run : Run (def-body is-fail (n 40 6 4 5 2 leaf (if-c 1 10 (returns-one 1 16 leaf) leaf))) nobody through nobody
+open-run = next skips (next (next (next uses skips) (right skips)) skips)
+
+open-found : List·Memᴰ (record { code = 8; spot = spot 0 50 2; second = span 16 24; third = no-span }) (findings open-end)
+open-found = theorem open-end open-valid (record { unlike = tt; looped = tt }) .end (record {
+  there = below at;
+  def = refl;
+  wants = refl;
+}) open-run
+
+-- A BARE RETURN IS REACHED: def f(): (if c: return); return 1
+abbrev bare-end : Forest
+bare-end = list 0 (def-f 0 0 (n 8 1 10 50 65535 (if-c 0 10 (bare-of 4 1 16 leaf) (returns-one 0 30 leaf)) leaf) leaf)
+
+bare-valid : T (valid bare-end)
+unfolding valid root-fits fitting kids-fit all-stand all-filled many in-order in-pairs for-first classOf slotOf
+bare-valid = tt
+
+bare-run : Run (def-body is-fail (n 40 6 4 5 2 leaf (n 8 1 10 50 65535
+    (if-c 0 10 (bare-of 4 1 16 leaf) (returns-one 0 30 leaf)) leaf))) nobody (by (bare (spot 16 22 65535))) nobody
+bare-run = next skips (cut (cut (next (next uses skips) (left (cut (next skips (returns tt)))))))
+
+bare-found : List·Memᴰ (record { code = 7; spot = spot 16 22 2; second = span 0 50; third = span 30 38 }) (findings bare-end)
+bare-found = theorem bare-end bare-valid (record { unlike = tt; looped = tt }) .bare-return (record {
+  there = below at;
+  def = refl;
+  wants = refl;
+}) bare-run
+
+-- A CALL OF FAIL NEVER FINISHES: def f(): (if c: return 1; else: fail()). No run reaches the end, and the flow list is empty.
+abbrev shut-end : Forest
+shut-end = list 0 (def-f 0 0 (if-else-c 1 10 (returns-one 1 16 (fails-at 2 30 leaf)) leaf) leaf)
+
+shut-valid : T (valid shut-end)
+unfolding valid root-fits fitting kids-fit all-stand all-filled many in-order in-pairs for-first classOf slotOf
+shut-valid = tt
+
+shut-run : {τ : Held} → Run (def-body is-fail (n 40 6 4 5 2 leaf (if-else-c 1 10
+    (returns-one 1 16 (fails-at 2 30 leaf)) leaf))) nobody through τ → ⊥
+shut-run r = List·Memᴰ·not-nil (theorem shut-end shut-valid (record { unlike = tt; looped = tt }) .end (record {
+  there = below at;
+  def = refl;
+  wants = refl;
+}) r)
+
+shut-list : findings shut-end ≡ []
+shut-list = refl
+
+-- THE FIRST PREMISE: def f(a): pass; print(a); a = 1, where the parameter a has the span of the a that is printed.
+-- The parameter is warned first, under 3, and so the use is under 3 alone.
+abbrev shared : Forest
+shared = list 0 (n 12 0 20 40 65535 (n 40 6 24 25 2 leaf (n 43 0 6 7 0 leaf (bare-of 3 1 34 leaf))) (prints 0 0 (assigns 0 50 leaf)))
+
+shared-valid : T (valid shared)
+unfolding valid root-fits fitting kids-fit all-stand all-filled many in-order in-pairs for-first classOf slotOf
+shared-valid = tt
+
+shared-reached : Reach (spot 6 7 0) (module-of shared) nobody
+shared-reached = first (second (next (next skips skips) (next skips (next (next sets skips) apart))) (printed 0 (assigns 0 50 leaf) tt))
+
+shared-list : warnings shared ≡ named-at 3 (spot 6 7 0) ∷ []
+shared-list = refl
+
+not-three : (c : ℕ) → (c ≡ 3 → ⊥) → List·Memᴰ (named-at c (spot 6 7 0)) (warnings shared) → ⊥
+not-three c x (List·Memᴰ·head e) = x (ap (λ (w : Rec). w .code) e)
+not-three c x (List·Memᴰ·tail m) = List·Memᴰ·not-nil m
+
+shared-untold : Told (spot 6 7 0) (warnings shared) → ⊥
+shared-untold (inl m) = not-three 4 (λ e. omega arith) m
+shared-untold (inr m) = not-three 6 (λ e. omega arith) m
+
+shared-premises : (names-apart shared ≡ false) × (jumps-in-loops shared ≡ true)
+shared-premises = (refl, refl)
+
+-- THE SECOND PREMISE: (if c: break; else: a = 1); print(a), outside every loop. The walk takes the side of the break for left, and warns nothing.
+-- Here no run goes on after that break, so nothing is missed. Were it to do nothing, as pass (3) does in its place, the print would be reached with a unset.
+abbrev astray : ℕ → Forest
+astray k = list 0 (if-else-c 0 0 (bare-of k 1 6 (assigns 2 20 leaf)) (prints 0 40 leaf))
+
+astray-valid : T (valid (astray 1))
+unfolding valid root-fits fitting kids-fit all-stand all-filled many in-order in-pairs for-first classOf slotOf
+astray-valid = tt
+
+astray-list : warnings (astray 1) ≡ []
+astray-list = refl
+
+astray-unreached : Reach (spot 46 47 0) (module-of (astray 1)) nobody → ⊥
+astray-unreached r = none-told (demand3-more is-fail never is-none never none (astray 1) astray-valid tt .unset of-module
+    (spot 46 47 0) tt r)
+  where
+    none-told : Told (spot 46 47 0) [] → ⊥
+    none-told (inl m) = List·Memᴰ·not-nil m
+    none-told (inr m) = List·Memᴰ·not-nil m
+
+passed-reached : Reach (spot 46 47 0) (module-of (astray 3)) nobody
+passed-reached = first (second (next (next uses skips) (left (next skips skips))) (printed 40 leaf tt))
+
+astray-premises : (names-apart (astray 1) ≡ true) × (jumps-in-loops (astray 1) ≡ false)
+astray-premises = (refl, refl)
+
+-- a loop outside the def isn't one of the def's own body: for i in xs: def f(): break
+foreign-loop : jumps-in-loops (list 0 (for-i 0 0 (def-f 1 14 (bare-of 1 1 24 leaf) leaf) leaf)) ≡ false
+foreign-loop = refl

@@ -1,0 +1,170 @@
+-- 01, "Incompatible and dubious", codes 14 and 15: "14 is walked before 15". Assumes nothing.
+use Prim.Native.Nat.{ℕ, suc}
+use mathlib.Core.Bool.{Bool, true, false, cond, _&&_, _||_}
+use mathlib.Core.List.{List, [], _∷_, _++_}
+use mathlib.Core.Option.{Option, none, some}
+use lib.Dec.{eqb}
+use Rattle.tree.specs.Forest.{Spot, Head, Forest, Forest.none as leaf, node, treeOf}
+use Rattle.tree.specs.Values.{Value}
+use Rattle.tree.specs.Table.{tableOf, spells}
+use Rattle.rules.specs.Record.{Rec, no-span, span-of, with-value, named-at, listed}
+use Rattle.rules.specs.Order.{Sort, Sort.load, Sort.assign, Sort.argument, Bind, one, several, nothing, bind-of, look}
+use Rattle.rules.specs.Flow.{place}
+
+-- "each node before its children", in file order
+abbrev pub each : (Head → Forest → List Rec) → Forest → List Rec
+each f leaf = []
+each f (node h k s) = f h k ++ (each f k ++ each f s)
+
+-- of the first node of a role: its kind (0: there is none), its children; how many have a role
+abbrev pub kind-at : ℕ → Forest → ℕ
+kind-at r leaf = 0
+kind-at r (node h k s) = elim (eqb r (h .role)) [ true ↦ h .kind | false ↦ kind-at r s ]
+
+abbrev pub under : ℕ → Forest → Forest
+under r leaf = leaf
+under r (node h k s) = elim (eqb r (h .role)) [ true ↦ k | false ↦ under r s ]
+
+abbrev pub tally : ℕ → Forest → ℕ
+tally r leaf = 0
+tally r (node h k s) = elim (eqb r (h .role)) [ true ↦ suc (tally r s) | false ↦ tally r s ]
+
+-- ---- 14
+
+-- the node of the role r among these is an identifier with such a name
+abbrev pub identifier : ℕ → (ℕ → Bool) → Forest → Bool
+identifier r p k = eqb 20 (kind-at r k) && p (place r k .value)
+
+-- "type called with one argument, left of equal or not equal, an identifier bool, tuple, str, list or int right"
+abbrev pub type-check : (ℕ → Bool) → (ℕ → Bool) → Forest → Bool
+type-check is-type names-type k =
+    eqb 23 (kind-at 1 k)
+    && (identifier 7 is-type (under 1 k)
+    && (eqb 1 (tally 0 (under 1 k))
+    && identifier 2 names-type k))
+
+-- "value is that name"
+abbrev pub check-at : (ℕ → Bool) → (ℕ → Bool) → Head → Forest → List Rec
+check-at is-type names-type h k =
+    listed ((eqb 31 (h .kind) || eqb 32 (h .kind)) && type-check is-type names-type k)
+    (named-at 14 (with-value (h .spot) (place 2 k .value)) ∷ []) []
+
+-- ---- 15
+
+-- what a statement does to the top level's names, in file order: define one, by a load or otherwise; x = x
+pub data Deed : Type 0 where
+  defines : Bool → Spot → Deed
+  repeats : Spot → Deed
+
+abbrev pub is-load : Sort → Bool
+is-load load = true
+is-load assign = false
+is-load argument = false
+
+-- the names of the role r, also those of several; down: the same below
+abbrev pub deed-part : Bind → Spot → (ℕ → List Deed) → List Deed
+deed-part (one o) s down = defines (is-load o) s ∷ []
+deed-part several s down = down 0
+deed-part nothing s down = []
+
+abbrev pub named : ℕ → Forest → List Deed
+named r leaf = []
+named r (node h k s) = listed (eqb r (h .role)) (deed-part (bind-of h) (h .spot) (λ v. named v k)) (named r s)
+
+-- x = x: the target a name, the value the identifier of that name
+abbrev pub self-set : Forest → Bool
+self-set k = eqb 40 (kind-at 5 k) && identifier 4 (eqb (place 5 k .value)) k
+
+-- "Assign, assign-modify, def and load count, under if and for too; not for targets or insides of defs."
+pub data Top : Type 0 where
+  assigning modifying defining loading holding aside : Top
+
+abbrev pub tops : List (ℕ × Top)
+tops =
+    (6, assigning)
+    ∷ (7, modifying)
+    ∷ (12, defining)
+    ∷ (13, loading)
+    ∷ (8, holding)
+    ∷ (9, holding)
+    ∷ (10, holding)
+    ∷ (11, holding)
+    ∷ []
+
+abbrev pub top-part : Top → Forest → List Deed → List Deed
+top-part assigning k down = cond (self-set k) (repeats (place 5 k) ∷ []) (named 5 k)
+top-part modifying k down = named 5 k
+top-part defining k down = named 6 k
+top-part loading k down = named 0 k
+top-part holding k down = down
+top-part aside k down = []
+
+abbrev pub deeds : Forest → List Deed
+deeds leaf = []
+deeds (node h k s) = top-part (look (h .kind) tops aside) k (deeds k) ++ deeds s
+
+-- a name as first defined
+pub record First : Type 0 where
+  pub spot : Spot
+  pub loaded : Bool
+
+abbrev pub first-of : ℕ → List First → Option First
+first-of x [] = none
+first-of x (d ∷ ds) = elim (eqb x (d .spot .value)) [ true ↦ some d | false ↦ first-of x ds ]
+
+abbrev pub times : ℕ → List ℕ → ℕ
+times x [] = 0
+times x (y ∷ ys) = elim (eqb x y) [ true ↦ suc (times x ys) | false ↦ times x ys ]
+
+-- "at the later name, second span the name as first defined"
+abbrev pub again : Spot → Spot → Rec
+again old s = record { code = 15; spot = s; second = span-of old; third = no-span }
+
+-- on: the rest, with the first definitions so far
+abbrev pub defined : Option First → Bool → Spot → List First → (List First → List Rec) → List Rec
+defined none l s ds on = on (record { spot = s; loaded = l } ∷ ds)
+defined (some d) l s ds on = again (d .spot) s ∷ on ds
+
+-- free: whether x = x of a loaded name is free after that many free ones; xs: the names that were free so far
+module _ (free : ℕ → Bool) where
+  abbrev pub may-repeat : Option First → ℕ → Bool
+  may-repeat none n = false
+  may-repeat (some d) n = d .loaded && free n
+
+  abbrev pub judge : List Deed → List First → List ℕ → List Rec
+  judge [] ds xs = []
+  judge (defines l s ∷ es) ds xs = defined (first-of (s .value) ds) l s ds (λ v. judge es v xs)
+  judge (repeats s ∷ es) ds xs =
+      elim (may-repeat (first-of (s .value) ds) (times (s .value) xs)) [
+        | true ↦ judge es ds (s .value ∷ xs)
+        | false ↦ defined (first-of (s .value) ds) false s ds (λ v. judge es v xs)
+      ]
+
+-- "x = x, where the first definition of x is a load, is free once"
+abbrev pub once : ℕ → Bool
+once n = eqb n 0
+
+abbrev pub incompatible : (ℕ → Bool) → (ℕ → Bool) → (ℕ → Bool) → Forest → List Rec
+incompatible free is-type names-type f = each (check-at is-type names-type) f ++ judge free (deeds f) [] []
+
+-- type
+abbrev pub type-name : List ℕ
+type-name = 0x74 ∷ 0x79 ∷ 0x70 ∷ 0x65 ∷ []
+
+-- bool, tuple, str, list, int
+abbrev pub five-types : List (List ℕ)
+five-types =
+    (0x62 ∷ 0x6f ∷ 0x6f ∷ 0x6c ∷ [])
+    ∷ (0x74 ∷ 0x75 ∷ 0x70 ∷ 0x6c ∷ 0x65 ∷ [])
+    ∷ (0x73 ∷ 0x74 ∷ 0x72 ∷ [])
+    ∷ (0x6c ∷ 0x69 ∷ 0x73 ∷ 0x74 ∷ [])
+    ∷ (0x69 ∷ 0x6e ∷ 0x74 ∷ [])
+    ∷ []
+
+abbrev pub spells-one : List Value → List (List ℕ) → ℕ → Bool
+spells-one vs [] x = false
+spells-one vs (bs ∷ bss) x = spells vs bs x || spells-one vs bss x
+
+-- of a file's bytes
+unfoldable pub incompatible-list : List ℕ → List Rec
+incompatible-list t = incompatible once (spells (tableOf t) type-name) (spells-one (tableOf t) five-types) (treeOf t)

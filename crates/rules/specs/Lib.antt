@@ -1,0 +1,14 @@
+-- The rules of document 01 as definitions, in its order.
+pub mod Record
+pub mod Order
+pub mod Names
+pub mod Flow
+pub mod Incompatible
+pub mod Dubious
+pub mod Joined
+pub mod Outcome
+pub mod Runs
+pub mod Premises
+pub mod Letter
+pub mod Marks
+pub mod Known
