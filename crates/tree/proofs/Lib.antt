@@ -10,6 +10,7 @@ pub mod KeyNumbers
 pub mod Names
 pub mod ValidTable
 pub mod KeyTable
+pub mod KeySamples
 pub mod Tables
 pub mod Table
 pub mod Slots

@@ -1,0 +1,95 @@
+-- The key test on values at its bounds, one row each, computed. Assumes nothing.
+use mathlib.Core.Path.{_≡_, refl}
+use mathlib.Core.List.{List, [], _∷_, map}
+use Prim.Native.Nat.{ℕ}
+use Rattle.tree.specs.Values.{Value}
+use Rattle.tree.specs.declared.Mode.the-variants.{Ordinary, Strict}
+use Rattle.tree.specs.Keys.{Likeness, different, same-form, same-number, like}
+
+abbrev value : ℕ → List ℕ → Value
+value k bs = record { kind = k; bytes = bs }
+
+abbrev nought : Value
+nought = value 3 []
+
+abbrev nought-float : Value
+nought-float = value 4 (0 ∷ 0 ∷ 0 ∷ 0 ∷ 0 ∷ 0 ∷ 0 ∷ 0 ∷ [])
+
+abbrev half : Value
+half = value 4 (0 ∷ 0 ∷ 0 ∷ 0 ∷ 0 ∷ 0 ∷ 0xe0 ∷ 0x3f ∷ [])
+
+abbrev one : Value
+one = value 3 (1 ∷ [])
+
+abbrev one-float : Value
+one-float = value 4 (0 ∷ 0 ∷ 0 ∷ 0 ∷ 0 ∷ 0 ∷ 0xf0 ∷ 0x3f ∷ [])
+
+-- 2147483647, the last i32, and one more
+abbrev last-i32 : Value
+last-i32 = value 3 (0x7f ∷ 0xff ∷ 0xff ∷ 0xff ∷ [])
+
+abbrev last-i32-float : Value
+last-i32-float = value 4 (0 ∷ 0 ∷ 0xc0 ∷ 0xff ∷ 0xff ∷ 0xff ∷ 0xdf ∷ 0x41 ∷ [])
+
+abbrev past-i32 : Value
+past-i32 = value 3 (0x80 ∷ 0 ∷ 0 ∷ 0 ∷ [])
+
+abbrev past-i32-float : Value
+past-i32-float = value 4 (0 ∷ 0 ∷ 0 ∷ 0 ∷ 0 ∷ 0 ∷ 0xe0 ∷ 0x41 ∷ [])
+
+abbrev ten-billion : Value
+ten-billion = value 3 (0x02 ∷ 0x54 ∷ 0x0b ∷ 0xe4 ∷ 0x00 ∷ [])
+
+abbrev ten-billion-float : Value
+ten-billion-float = value 4 (0 ∷ 0 ∷ 0 ∷ 0x20 ∷ 0x5f ∷ 0xa0 ∷ 0x02 ∷ 0x42 ∷ [])
+
+-- 2^53 - 1, and 2^53
+abbrev below-53 : Value
+below-53 = value 3 (0x1f ∷ 0xff ∷ 0xff ∷ 0xff ∷ 0xff ∷ 0xff ∷ 0xff ∷ [])
+
+abbrev below-53-float : Value
+below-53-float = value 4 (0xff ∷ 0xff ∷ 0xff ∷ 0xff ∷ 0xff ∷ 0xff ∷ 0x3f ∷ 0x43 ∷ [])
+
+abbrev at-53 : Value
+at-53 = value 3 (0x20 ∷ 0 ∷ 0 ∷ 0 ∷ 0 ∷ 0 ∷ 0 ∷ [])
+
+abbrev at-53-float : Value
+at-53-float = value 4 (0 ∷ 0 ∷ 0 ∷ 0 ∷ 0 ∷ 0 ∷ 0x40 ∷ 0x43 ∷ [])
+
+abbrev infinity : Value
+infinity = value 4 (0 ∷ 0 ∷ 0 ∷ 0 ∷ 0 ∷ 0 ∷ 0xf0 ∷ 0x7f ∷ [])
+
+-- two values, what the ordinary test says of them, what the strict one says
+pub record Row : Type 0 where
+  pub left : Value
+  pub right : Value
+  pub ordinarily : Likeness
+  pub strictly : Likeness
+
+abbrev row : Value → Value → Likeness → Likeness → Row
+row a b o s = record { left = a; right = b; ordinarily = o; strictly = s }
+
+abbrev rows : List Row
+rows =
+    row one one-float same-number same-number
+    ∷ row one one same-form same-form
+    ∷ row nought nought-float same-number same-number
+    ∷ row last-i32 last-i32-float same-number same-number
+    ∷ row past-i32 past-i32-float different same-number
+    ∷ row ten-billion ten-billion-float different same-number
+    ∷ row below-53 below-53-float different same-number
+    ∷ row at-53 at-53-float different different
+    ∷ row at-53-float at-53-float same-form same-form
+    ∷ row half nought different different
+    ∷ row half one different different
+    ∷ row infinity infinity same-form same-form
+    ∷ row infinity at-53 different different
+    ∷ row (value 0 (0x78 ∷ [])) (value 1 (0x78 ∷ [])) different different
+    ∷ row (value 1 (0x78 ∷ [])) (value 2 (0x78 ∷ [])) different different
+    ∷ []
+
+pub ordinary-rows : map (λ (r : Row). like Ordinary (r .left) (r .right)) rows ≡ map (λ (r : Row). r .ordinarily) rows
+ordinary-rows = refl
+
+pub strict-rows : map (λ (r : Row). like Strict (r .left) (r .right)) rows ≡ map (λ (r : Row). r .strictly) rows
+strict-rows = refl
