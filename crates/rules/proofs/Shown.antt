@@ -282,3 +282,17 @@ astray-premises = (refl, refl)
 -- a loop outside the def isn't one of the def's own body: for i in xs: def f(): break
 foreign-loop : jumps-in-loops (list 0 (for-i 0 0 (def-f 1 14 (bare-of 1 1 24 leaf) leaf) leaf)) ≡ false
 foreign-loop = refl
+
+-- A FUNCTION ABORT STAYS AFTER A LOOP: (if c: return; for i in xs: pass; else: a = 1); print(a). The first side has returned,
+-- so a is Definitely after it; were the abort cleared after the loop, the print would be under 6.
+abbrev returned : Forest
+returned =
+    list 0
+    (if-else-c 0 0 (n 8 1 6 60 65535 (bare-of 4 0 6 (for-i 0 12 (bare-of 3 1 30 leaf) leaf)) (assigns 2 70 leaf)) (prints 0 80 leaf))
+
+returned-valid : T (valid returned)
+unfolding valid root-fits fitting kids-fit all-stand all-filled many in-order in-pairs for-first classOf slotOf
+returned-valid = tt
+
+returned-list : warnings returned ≡ []
+returned-list = refl

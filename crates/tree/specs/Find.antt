@@ -1,4 +1,4 @@
--- The children of a node by number, and the first of some siblings that has a role. Assumes nothing.
+-- For the code and its laws: the children of a node by number, and the first of some siblings that has a role. Assumes nothing.
 use Prim.Native.Nat.{ℕ, zero, suc, _+_, _-_, _≤_, _<_}
 use mathlib.Core.List.{List}
 use mathlib.Core.Bool.{true, false}

@@ -45,7 +45,7 @@ forestOf t i e = forestIn (e - i) t i e
 unfoldable pub treeOf : List ℕ → Forest
 treeOf t = forestOf t 0 (nodeCount t)
 
--- The nodes from i up to e are whole subtrees, and so are those below each of them.
+-- For the code and its laws: the nodes from i up to e are whole subtrees, and so are those below each of them.
 pub record Part (t : List ℕ) (i e : ℕ) : Type 0 where
   pub few : e ≤ 1024
   pub some : (j : ℕ) → i ≤ j → j < e → 1 ≤ sizeAt t j

@@ -8,7 +8,7 @@ use lib.Dec.{leb, ltb, eqb}
 use Rattle.tree.specs.Bytes.{kindAt, sizeAt, beginAt, endAt, valueAt, lastAt, pick}
 use Rattle.tree.specs.Values.{isName, isLiteral}
 
--- the last node below j that node i stands in; 0 where there is none
+-- the last node numbered below j that has node i in its part; 0 where there is none
 unfoldable pub parentIn : List ℕ → ℕ → ℕ → ℕ
 parentIn t i zero = 0
 parentIn t i (suc j) = elim (ltb i (j + sizeAt t j)) [ true ↦ j | false ↦ parentIn t i j ]
@@ -57,6 +57,6 @@ depthOf t i = depthIn i t i
 unfoldable pub bad8 : List ℕ → ℕ → Bool
 bad8 t i = ltb 48 (depthOf t i)
 
--- a table of the parents of the nodes below n
+-- for the code: a table of the parents of the nodes numbered below n
 abbrev pub Parents : List ℕ → ℕ → List ℕ → Type 0
 Parents t n par = (k : ℕ) → k < n → getD par k 0 ≡ parentOf t k

@@ -59,5 +59,6 @@ root-fits none = false
 root-fits (node h kids none) = eqb (classOf (h .kind)) 1 && eqb (h .role) 0
 root-fits (node h kids (node g below rest)) = false
 
+-- what refusal 7 asks of a whole tree
 unfoldable pub valid : Forest → Bool
 valid f = root-fits f && fitting f

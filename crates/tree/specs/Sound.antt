@@ -1,4 +1,4 @@
--- What the judgement says of a valid file, in one record. Assumes nothing.
+-- For the laws: what the judgement says of a valid file, in one record; `sound` of proofs/Whole shows it. Assumes nothing.
 use Prim.Native.Nat.{ℕ, _+_, _*_, _≤_, _<_}
 use mathlib.Core.Path.{_≡_}
 use mathlib.Core.List.{List}

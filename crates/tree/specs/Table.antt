@@ -36,6 +36,8 @@ named-so bs v = formed-alike v (record { kind = 0; bytes = bs })
 abbrev pub spells : List Value → List ℕ → ℕ → Bool
 spells vs bs v = named-so bs (at vs v)
 
+-- ---- for the code: tables and numbers that the lookups promise
+
 -- a place, if it is below n
 abbrev pub below-or : ℕ → ℕ → ℕ → ℕ
 below-or place n other = pick (ltb place n) place other
