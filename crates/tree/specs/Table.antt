@@ -99,7 +99,7 @@ lead vs v none = v
 lead vs v (some n) = below-or (lowest (length vs) (is-integer vs n)) (length vs) v
 
 -- The value number that stands for value v as a key: for a float that counts as an integer of the table, that integer's
--- (the first such), for any other value its own. proofs/KeyNumbers: in a valid file two keys are the same exactly if these are.
+-- (the first such), for any other value its own. proofs/KeyTable: in a valid file two keys are the same exactly if these are.
 unfoldable pub key-number : Mode → List Value → ℕ → ℕ
 key-number m vs v = lead vs v (float-number m (at vs v))
 
