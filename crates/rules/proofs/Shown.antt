@@ -11,7 +11,7 @@ use Rattle.tree.specs.Forest.{Spot, Forest, Forest.none as leaf, node}
 use Rattle.rules.specs.Order.{Stop, bare, fails, Cmd, _⨟_, stop, of-role, takes, body, def-body}
 use Rattle.rules.specs.Names.{names, told}
 use Rattle.rules.specs.Flow.{flow}
-use Rattle.rules.specs.Record.{Rec, Span, no-span, named-at}
+use Rattle.rules.specs.Record.{Rec, Span, no-span, named-at, plainly}
 use Rattle.rules.specs.Runs.{at, below, beside, of-module, of-def, Held, nobody, End, through, by, Run, skips, next, cut, uses, sets, breaking, returns, left, right, done, continues, out, apart, Reach, here, first, second}
 use Rattle.rules.specs.Premises.{Premises, names-apart, jumps-in-loops}
 use Rattle.rules.specs.Letter.{Told, Demand3}
@@ -296,3 +296,12 @@ returned-valid = tt
 
 returned-list : warnings returned ≡ []
 returned-list = refl
+
+-- SIDES BY ROLE: an if-else whose role 2 stands before its role 1, each (return; pass). Reachable takes role 1 first.
+abbrev swapped : Forest
+swapped =
+    list 0
+    (if-else-c 0 0 (n 8 2 6 18 65535 (bare-of 4 0 6 (bare-of 3 0 12 leaf)) (n 8 1 20 32 65535 (bare-of 4 0 20 (bare-of 3 0 26 leaf)) leaf)) leaf)
+
+swapped-list : findings swapped ≡ plainly 9 (spot 26 32 0) ∷ plainly 9 (spot 12 18 0) ∷ []
+swapped-list = refl

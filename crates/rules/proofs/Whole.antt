@@ -16,7 +16,7 @@ use Rattle.tree.proofs.Fits.{tree-valid, tree-count}
 use Rattle.rules.specs.Order.{body, fail-name}
 use Rattle.rules.specs.Joined.{lint-list, raise-all, no-tally, tally-of}
 use Rattle.rules.specs.Premises.{Premises}
-use Rattle.rules.specs.Letter.{Demand3-of}
+use Rattle.rules.specs.Letter.{Demand3-of, The-demand}
 use Rattle.rules.specs.Marks.{nodes, Every, start}
 use Rattle.rules.proofs.Demand3.{demand3-of}
 use Rattle.rules.proofs.Seven.{Capacity, capacity}
@@ -54,3 +54,6 @@ module _ (t : List ℕ) (f : Facts) (v : judged t ≡ Valid f) where
   -- what the names engine has to hold
   pub file-capacity : Every (underscored (tableOf t)) (Capacity (treeOf t)) 0 (body (spells (tableOf t) fail-name) (treeOf t)) start
   file-capacity = capacity (underscored (tableOf t)) (spells (tableOf t) fail-name) (treeOf t) (tree-valid t f v)
+
+pub the-demand : The-demand
+the-demand t f v p = file-demand3 t f v p

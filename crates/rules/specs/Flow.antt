@@ -35,7 +35,8 @@ wanted everything r = true
 wanted the-body r = eqb 1 r
 wanted the-rest r = not (eqb 1 r)
 
--- "outside nested defs": the returns, in file order; down: those of the children
+-- "outside nested defs": the returns, in file order; down: those of the children. (What is not a nested def's body has no
+-- statement in it.)
 abbrev pub returns-rows : List (Form × (Head → Forest → (Which → List Return) → List Return))
 returns-rows =
     (Form.returning, λ h k down. record { spot = h .spot; valued = has 4 k } ∷ down everything)

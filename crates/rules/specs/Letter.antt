@@ -8,10 +8,14 @@ use mathlib.Core.Option.{some}
 use lib.Dec.{T}
 use Rattle.tree.specs.Forest.{Spot, Head, Forest, treeOf}
 use Rattle.tree.specs.Table.{tableOf, spells}
+use Rattle.tree.specs.Judge.{judged}
+use Rattle.tree.specs.declared.Facts.{Facts}
+use Rattle.tree.specs.declared.Judged.the-variants.{Valid}
 use Rattle.rules.specs.Record.{Rec, named-at}
 use Rattle.rules.specs.Order.{Cmd, bare, def-body, fail-name}
 use Rattle.rules.specs.Names.{names-list}
 use Rattle.rules.specs.Flow.{reason, place, missing, missing-expression, none-name, flow-list}
+use Rattle.rules.specs.Premises.{Premises}
 use Rattle.rules.specs.Runs.{Node, Body, own, Held, nobody, through, by, Run, Reach}
 
 -- "the use is in the names list under code 4 or 6"
@@ -41,3 +45,8 @@ module _ (is-fail is-none : ℕ → Bool) where
 abbrev pub Demand3-of : List ℕ → Type 0
 Demand3-of t =
     Demand3 (spells (tableOf t) fail-name) (spells (tableOf t) none-name) (treeOf t) (names-list t) (flow-list t)
+
+-- The demand whole: "Take a valid tree in which no two nodes that hold a name share span and name and every break or continue
+-- stands in a loop of its own body."
+abbrev pub The-demand : Type 0
+The-demand = (t : List ℕ) (f : Facts) → judged t ≡ Valid f → Premises (treeOf t) → Demand3-of t

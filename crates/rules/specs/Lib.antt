@@ -7,6 +7,7 @@ pub mod Incompatible
 pub mod Dubious
 pub mod Joined
 pub mod Outcome
+pub mod Calls
 pub mod Runs
 pub mod Premises
 pub mod Letter

@@ -277,21 +277,23 @@ spared-at underscore true c e =
     is-assign (e .sort) && (not (underscore (e .spot .value)) && spots (c .standing (e .spot .value)) (e .spot))
 spared-at underscore false c e = underscore (e .spot .value)
 
--- "Settings not used, with no unbound use of that name, warn 1, 2 or 3"
+-- a setting that doesn't warn: it is used, or its name has an unbound use, or it is excepted
 abbrev pub spared : (ℕ → Bool) → Bool → Scope → Setting → Bool
 spared underscore top c e =
     c .used (e .spot) || (named (e .spot .value) (c .unbound) || spared-at underscore top c e)
 
+-- "Settings not used, with no unbound use of that name, warn 1, 2 or 3"
 abbrev pub idle : (ℕ → Bool) → Bool → Scope → List Setting → List Warning → List Warning
 idle underscore top c [] ws = ws
 idle underscore top c (e ∷ es) ws =
     idle underscore top c es (warn-if (not (spared underscore top c e)) (unused (e .sort)) (e .spot) ws)
 
--- "Leaving: can't-set uses whose name is set here warn 4."
+-- "Leaving: can't-set uses whose name is set here warn 4", then the settings
 abbrev pub farewell : (ℕ → Bool) → Bool → Scope → List Warning → List Warning
 farewell underscore top c ws =
     idle underscore top c (c .settings) (warn-all 4 (λ s. set-names (s .value) (c .settings)) (c .cant) ws)
 
+-- "new scope"
 abbrev pub enter : State → State
 enter st = record { here = fresh; above = st .here ∷ st .above; out = st .out }
 
@@ -299,6 +301,7 @@ enter st = record { here = fresh; above = st .here ∷ st .above; out = st .out 
 abbrev pub passed : Scope → List Spot
 passed c = keep (λ s. not (set-names (s .value) (c .settings))) (c .unbound)
 
+-- the scope further out goes on; the module's, which has none, is left by names-of
 abbrev pub leave-to : (ℕ → Bool) → State → List Scope → State
 leave-to underscore st [] = st
 leave-to underscore st (c ∷ cs) =
@@ -318,7 +321,7 @@ undefined none c ws = ws
 undefined (some given) c ws = warn-all 5 (λ s. not (given (s .value))) (passed c) ws
 
 module _ (underscore : ℕ → Bool) where
-  -- depth: the count of enclosing for statements
+  -- depth: how many for statements are around, through defs too
   abbrev pub walk : ℕ → Cmd → State → State
   walk depth skip st = st
   walk depth (a ⨟ b) st = walk depth b (walk depth a st)
@@ -330,6 +333,7 @@ module _ (underscore : ℕ → Bool) where
   walk depth (loop c) st = rounds (leb (suc depth) 5) (walk (suc depth) c) st
   walk depth (scope c) st = leave underscore (walk depth c (enter st))
 
+  -- the module is left at last
   abbrev pub names-of : Option (ℕ → Bool) → Cmd → List Warning
   names-of globals m =
       let st = walk 0 m (record { here = fresh; above = []; out = [] }) in

@@ -1,4 +1,5 @@
--- 01, "Names", the paragraph "Order": what a tree has the names pass do, in what order. Assumes nothing.
+-- 01, "Names", the paragraph "Order": the commands that a tree is, in 01's order. The names pass (Names) and the runs of demand 3
+-- (Runs) both go over them. What tells break from continue, and a bare return from another, is for the runs alone. Assumes nothing.
 use Prim.Native.Nat.{ℕ}
 use mathlib.Core.Bool.{Bool, true, false, cond, _&&_, _||_}
 use mathlib.Core.List.{List, [], _∷_}
@@ -20,7 +21,8 @@ pub data Stop : Type 0 where
 pub data Sort : Type 0 where
   load assign argument : Sort
 
--- What the pass does: use a name, set one, stop, take one of two sides, go round a loop, go through a scope of its own.
+-- Use a name; set one; stop (the pass notes an abort and goes on, a run ends there); two sides (the pass goes through both, a run
+-- takes one); a loop; a scope of its own.
 pub data Cmd : Type 0 where
   skip : Cmd
   _⨟_ : Cmd → Cmd → Cmd
@@ -36,6 +38,7 @@ infixr 20 _⨟_
 pub data Form : Type 0 where
   breaking returning expression assign modify statements if if-else for def load identifier lambda comprehension plain : Form
 
+-- what a table says of a number; d where it has no row
 abbrev pub look {ℓ} : {A : Type ℓ} → ℕ → List (ℕ × A) → A → A
 look k [] d = d
 look k (e ∷ es) d = elim (eqb k (e .0)) [ true ↦ e .1 | false ↦ look k es d ]
@@ -48,6 +51,7 @@ forms = (1, Form.breaking) ∷ (2, Form.breaking) ∷ (4, Form.returning) ∷ (5
 abbrev pub form-of : Head → Form
 form-of h = look (h .kind) forms Form.plain
 
+-- a number for each form, all different: forms are told apart by it
 abbrev pub rank : Form → ℕ
 rank Form.breaking = 0
 rank Form.returning = 1

@@ -16,12 +16,12 @@ use Rattle.rules.specs.declared.Outcome.the-variants.{Listed, Refused}
 use Rattle.rules.specs.declared.Answer.{Answer}
 
 -- 01's number and place of each refusal; 11's place is "records needed"
-unfoldable pub numberOf : Refusal → ℕ
+abbrev pub numberOf : Refusal → ℕ
 numberOf (Tree why) = tree.numberOf why
 numberOf WorkRoom = 10
 numberOf (AnswerRoom n) = 11
 
-unfoldable pub placeOf : Refusal → ℕ
+abbrev pub placeOf : Refusal → ℕ
 placeOf (Tree why) = tree.placeOf why
 placeOf WorkRoom = 0
 placeOf (AnswerRoom n) = n
@@ -33,11 +33,11 @@ room-for false n = none
 
 -- "Checked in that order": 1 to 9 as judged, 10 if names runs and is short of work room, 11 for n records in that many words
 unfoldable pub refusal : Judged → Bool → ℕ → ℕ → Option Refusal
-refusal (Unfit why) short n room = some (Tree why)
+refusal (Unfit why) lacking n room = some (Tree why)
 refusal (Valid f) true n room = some WorkRoom
 refusal (Valid f) false n room = room-for (ltb room (8 * n)) n
 
--- "its tally is all zero" on a refusal; else the records that the list has, and their codes' counts raised
+-- "its tally is all zero" on a refusal; else how many records the list has, and the counts with each record's code raised
 unfoldable pub answer-by : Option Refusal → List Rec → List ℕ → Answer
 answer-by (some why) rs tally = record { outcome = Refused why; tally = no-tally }
 answer-by none rs tally = record { outcome = Listed (length rs); tally = raise-all rs tally }

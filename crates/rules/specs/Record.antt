@@ -25,7 +25,7 @@ span-of s = record { begin = s .begin; end = s .end }
 abbrev pub with-value : Spot → ℕ → Spot
 with-value s v = record { begin = s .begin; end = s .end; value = v }
 
--- a record of one span, its value the name that stands there
+-- a record of one span, its value that of the spot
 abbrev pub named-at : ℕ → Spot → Rec
 named-at c s = record { code = c; spot = s; second = no-span; third = no-span }
 

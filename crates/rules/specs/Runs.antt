@@ -1,7 +1,10 @@
 -- Demand 3: the runs of a module's or a def's body. They go over the commands that the names pass takes (Order), so the
 -- parts of a statement are taken in 01's order by construction; "every condition and loop count" falls as it may.
--- "A call of fail never finishing": the statement fail(..) has no run. Of a call of fail inside another expression, and of a use
--- of a name that isn't set, the commands say nothing: here are runs that go on after it, more than the letter's, so the theorem is stronger. Assumes nothing.
+-- "A call of fail never finishing": no run finishes the statement fail(..), while the uses in it are reached. Of a call of fail
+-- inside another expression, and of a use of a name that isn't set, the commands say nothing: here are runs that go on after it,
+-- more than the letter's, so the theorem is stronger. Of a conditional expression, and, or, all parts are taken: an expression
+-- sets no name of the body and cuts nothing short, so a run that skips a part reaches no use that isn't reached here with the
+-- same names set. Assumes nothing.
 use Prim.Native.Nat.{ℕ}
 use mathlib.Core.Path.{_≡_}
 use mathlib.Core.Bool.{Bool, true, false, _||_, not}
@@ -41,7 +44,7 @@ nobody x = false
 abbrev pub hold : Spot → Held → Held
 hold s σ x = eqb x (s .value) || σ x
 
--- how a run of a part ends: it comes to the part's end, or it is cut short by a break, a continue or a return
+-- how a run of a part ends: it comes to the part's end, or it is cut short by a break, a continue or a return (never by fails)
 pub data End : Type 0 where
   through : End
   by : Stop → End

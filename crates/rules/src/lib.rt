@@ -1,4 +1,6 @@
 // What every pass answers. The rules themselves stand in specs/, as definitions.
+ghost use mathlib.Core.Path.{_≡_};
+ghost use Rattle.rules.specs.Outcome.{numberOf, placeOf};
 
 // Why a call is refused: the tree, the work room, or the answer room with the records that it needs.
 // Specs' numberOf and placeOf give 01's numbers.
@@ -6,6 +8,30 @@ pub enum Refusal {
     Tree(tree::Refusal),
     WorkRoom,
     AnswerRoom(usize),
+}
+
+impl Refusal {
+    // 01's number.
+    pub fn number(self) -> usize
+        ensures { λ r. ⌜ r ≡ numberOf self ⌝ }
+    {
+        match self {
+            Refusal::Tree(why) => why.number(),
+            Refusal::WorkRoom => 10,
+            Refusal::AnswerRoom(_) => 11,
+        }
+    }
+
+    // 01's place; for 11 the records needed.
+    pub fn place(self) -> usize
+        ensures { λ r. ⌜ r ≡ placeOf self ⌝ }
+    {
+        match self {
+            Refusal::Tree(why) => why.place(),
+            Refusal::WorkRoom => 0,
+            Refusal::AnswerRoom(n) => n,
+        }
+    }
 }
 
 pub enum Outcome {
