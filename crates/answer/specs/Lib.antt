@@ -1,0 +1,5 @@
+-- What the contracts of answer cite.
+pub mod Page
+pub mod Note
+pub mod Refuse
+pub mod Walk

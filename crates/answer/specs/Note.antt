@@ -1,0 +1,38 @@
+-- A record by the nodes that it speaks of. Assumes nothing.
+use Prim.Native.Nat.{ℕ}
+use mathlib.Core.List.{List}
+use Rattle.tree.specs.Forest.{spotAt}
+use Rattle.rules.specs.Record.{Rec, Span, no-span, span-of, with-value}
+use Rattle.answer.specs.declared.Note.{Note}
+use Rattle.answer.specs.declared.Place.{Place}
+use Rattle.answer.specs.declared.Place.the-variants.{Nowhere, Node}
+use Rattle.answer.specs.declared.Words.{Words}
+
+-- "0 0 where absent"
+unfoldable pub spanOf : List ℕ → Place → Span
+spanOf t Nowhere = no-span
+spanOf t (Node i) = span-of (spotAt t i)
+
+-- "65535: none"
+unfoldable pub valueOf : List ℕ → Place → ℕ
+valueOf t Nowhere = 65535
+valueOf t (Node i) = spotAt t i .value
+
+unfoldable pub recOf : List ℕ → Note → Rec
+recOf t n =
+    record {
+      code = n .code;
+      spot = with-value (spotAt t (n .at)) (valueOf t (n .value));
+      second = spanOf t (n .second);
+      third = spanOf t (n .third);
+    }
+
+-- the record of eight words
+abbrev pub recFrom : Words → Rec
+recFrom w =
+    record {
+      code = w .code;
+      spot = record { begin = w .begin; end = w .end; value = w .value };
+      second = record { begin = w .begin2; end = w .end2 };
+      third = record { begin = w .begin3; end = w .end3 };
+    }

@@ -1,0 +1,220 @@
+// What a pass writes: records of eight words into a lent slice, and a tally of seventeen counts.
+// Every function here is total: a record for which there is no room is only counted, and a count stays at the largest usize.
+ghost use mathlib.Core.Path.{_≡_};
+ghost use Prim.Native.Nat.{ℕ, _<_};
+ghost use Rattle.tree.specs.Forest.{spotAt};
+ghost use Rattle.rules.specs.Record.{plainly};
+ghost use Rattle.rules.specs.Joined.{one-more, raise, no-tally};
+ghost use Rattle.answer.specs.Page.{stored, write, page};
+ghost use Rattle.answer.specs.Note.{spanOf, valueOf, recOf, recFrom};
+ghost use Rattle.answer.specs.Refuse.{refusalOf};
+use rules::Answer;
+use rules::Outcome;
+use rules::Refusal;
+use tree::Judged;
+use tree::bytes::begin_at;
+use tree::bytes::end_at;
+use tree::bytes::value_at;
+
+// A node that a record speaks of, where it speaks of one.
+pub enum Place {
+    Nowhere,
+    Node(usize),
+}
+
+// A record by the nodes whose spans and value it has.
+pub struct Note {
+    pub code: u32,
+    pub at: usize,
+    pub value: Place,
+    pub second: Place,
+    pub third: Place,
+}
+
+// How many records there are so far, and how many of each code.
+pub struct Sheet {
+    pub count: usize,
+    pub tally: [usize; 17],
+}
+
+pub struct Words {
+    pub code: u32,
+    pub begin: u32,
+    pub end: u32,
+    pub value: u32,
+    pub begin2: u32,
+    pub end2: u32,
+    pub begin3: u32,
+    pub end3: u32,
+}
+
+fn up(x: usize) -> usize
+    ensures { λ r. ⌜ r ≡ one-more x ⌝ }
+{
+    if x < 18446744073709551615 {
+        return x + 1;
+    }
+    x
+}
+
+fn raise_at(counts: &mut [usize], code: usize)
+    ensures { λ _. ⌜ now (counts .exit) ≡ raise code (now (counts .entry)) ⌝ }
+{
+    if code < 1 {
+        return;
+    }
+    if counts.len() < code {
+        return;
+    }
+    let k = code - 1;
+    counts[k] = up(counts[k]);
+}
+
+// The tally with the count of one code raised.
+pub fn raised(tally: [usize; 17], code: u32) -> [usize; 17]
+    ensures { λ r. ⌜ r ≡ raise code tally ⌝ }
+{
+    let mut counts = tally;
+    raise_at(&mut counts, code as usize);
+    counts
+}
+
+fn word(x: usize) -> u32
+    requires { ⌜ x < 4294967296 ⌝ }
+    ensures { λ r. ⌜ r ≡ x ⌝ }
+{
+    x as u32
+}
+
+fn begin_of(t: &[u8], p: Place) -> u32
+    ensures { λ r. ⌜ r ≡ spanOf (now (t .entry)) p .begin ⌝ }
+{
+    match p {
+        Place::Nowhere => 0,
+        Place::Node(i) => word(begin_at(t, i)),
+    }
+}
+
+fn end_of(t: &[u8], p: Place) -> u32
+    ensures { λ r. ⌜ r ≡ spanOf (now (t .entry)) p .end ⌝ }
+{
+    match p {
+        Place::Nowhere => 0,
+        Place::Node(i) => word(end_at(t, i)),
+    }
+}
+
+fn value_of(t: &[u8], p: Place) -> u32
+    ensures { λ r. ⌜ r ≡ valueOf (now (t .entry)) p ⌝ }
+{
+    match p {
+        Place::Nowhere => 65535,
+        Place::Node(i) => word(value_at(t, i)),
+    }
+}
+
+fn words_of(t: &[u8], n: Note) -> Words
+    ensures { λ r. ⌜ recFrom r ≡ recOf (now (t .entry)) n ⌝ }
+{
+    let value = n.value;
+    let second = n.second;
+    let third = n.third;
+    Words {
+        code: n.code,
+        begin: begin_of(t, Place::Node(n.at)),
+        end: end_of(t, Place::Node(n.at)),
+        value: value_of(t, value),
+        begin2: begin_of(t, second),
+        end2: end_of(t, second),
+        begin3: begin_of(t, third),
+        end3: end_of(t, third),
+    }
+}
+
+// The n-th record stored, where there is room for it.
+fn emit(out: &mut [u32], n: usize, r: Words)
+    ensures { λ _. ⌜ now (out .exit) ≡ stored (now (out .entry)) n (recFrom r) ⌝ }
+{
+    if n < out.len() / 8 {
+        let a = 8 * n;
+        out[a] = r.code;
+        out[a + 1] = r.begin;
+        out[a + 2] = r.end;
+        out[a + 3] = r.value;
+        out[a + 4] = r.begin2;
+        out[a + 5] = r.end2;
+        out[a + 6] = r.begin3;
+        out[a + 7] = r.end3;
+    }
+}
+
+// One more record: stored where there is room for it, and counted.
+pub fn put(t: &[u8], out: &mut [u32], s: Sheet, n: Note) -> Sheet
+    ensures { λ r. ⌜ page (now (out .exit)) r ≡ write (page (now (out .entry)) s) (recOf (now (t .entry)) n) ⌝ }
+{
+    let code = n.code;
+    let count = s.count;
+    let tally = s.tally;
+    emit(out, count, words_of(t, n));
+    Sheet {
+        count: up(count),
+        tally: raised(tally, code),
+    }
+}
+
+// A record of a node's own span and of no value.
+pub fn put_plainly(t: &[u8], out: &mut [u32], s: Sheet, code: u32, i: usize) -> Sheet
+    ensures { λ r. ⌜ page (now (out .exit)) r ≡ write (page (now (out .entry)) s) (plainly code (spotAt (now (t .entry)) i)) ⌝ }
+{
+    put(
+        t,
+        out,
+        s,
+        Note {
+            code,
+            at: i,
+            value: Place::Nowhere,
+            second: Place::Nowhere,
+            third: Place::Nowhere,
+        },
+    )
+}
+
+// Nothing written yet, with the counts of the passes before.
+pub fn started(tally: [usize; 17]) -> Sheet
+    ensures { λ r. ⌜ (r .count ≡ 0) × (r .tally ≡ tally) ⌝ }
+{
+    Sheet { count: 0, tally }
+}
+
+// A refusal: its tally is all zero.
+pub fn refused(why: Refusal) -> Answer
+    ensures { λ r. ⌜ (r .outcome ≡ Outcome.Refused why) × (r .tally ≡ no-tally) ⌝ }
+{
+    let zero = [0; 17];
+    Answer {
+        outcome: Outcome::Refused(why),
+        tally: zero,
+    }
+}
+
+// Why a judged file is refused. (A valid one is not: no caller asks.)
+pub fn refusal_of(j: Judged) -> Refusal
+    ensures { λ r. ⌜ r ≡ refusalOf j ⌝ }
+{
+    match j {
+        Judged::Refused(why) => Refusal::Tree(why),
+        Judged::Valid(_) => Refusal::AnswerRoom(0),
+    }
+}
+
+// What is written is the whole list.
+pub fn listed(s: Sheet) -> Answer
+    ensures { λ r. ⌜ (r .outcome ≡ Outcome.Listed (s .count)) × (r .tally ≡ s .tally) ⌝ }
+{
+    let tally = s.tally;
+    Answer {
+        outcome: Outcome::Listed(s.count),
+        tally,
+    }
+}

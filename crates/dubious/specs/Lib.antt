@@ -1,0 +1,2 @@
+-- What the contracts of dubious cite.
+pub mod Scan

@@ -1,0 +1,223 @@
+// Dubious (003), after dubious.rs: 16 duplicate key, then 17 identifier as statement.
+// Cost: linear in the nodes, and quadratic in the keys of one dict. Stack: 1 KiB for the numbers of the keys.
+ghost use mathlib.Core.Path.{_≡_};
+ghost use mathlib.Core.List.{[]};
+ghost use Prim.Native.Nat.{_+_, _≤_, _<_};
+ghost use lib.Dec.{eqb};
+ghost use lib.ListN.{getD};
+ghost use mathlib.Core.Bool.{_&&_};
+ghost use Rattle.tree.specs.Bytes.{sizeAt, valueAt, pick};
+ghost use Rattle.tree.specs.Forest.{headAt, forestOf, Part};
+ghost use Rattle.tree.specs.Judge.{judged};
+ghost use Rattle.rules.specs.Record.{listed};
+ghost use Rattle.rules.specs.Incompatible.{each};
+ghost use Rattle.rules.specs.Dubious.{keys, doubles, dict-at, idle-at, unsaid, dubious, dubious-list};
+ghost use Rattle.rules.specs.Outcome.{answered, room-after};
+ghost use Rattle.answer.specs.Page.{writes, page};
+ghost use Rattle.answer.specs.Walk.{Whole};
+ghost use Rattle.dubious.specs.Scan.{keyed, is-key, doubled, clashes};
+use answer::Note;
+use answer::Place;
+use answer::Sheet;
+use answer::put;
+use answer::started;
+use rules::Answer;
+use rules::Refusal;
+use tree::Judged;
+use tree::Mode;
+use tree::children::child_of;
+use tree::bytes::kind_at;
+use tree::bytes::role_at;
+use tree::bytes::size_at;
+use tree::bytes::value_at;
+use tree::judge;
+use tree::keys::key_numbers;
+
+fn wide(x: u16) -> usize
+    ensures { λ r. ⌜ r ≡ x ⌝ }
+{
+    x as usize
+}
+
+// The number that stands for the key at node j.
+fn key_at(t: &[u8], numbers: &[u16], j: usize) -> usize
+    ensures { λ r. ⌜ r ≡ getD (now (numbers .entry)) (valueAt (now (t .entry)) j) 0 ⌝ }
+{
+    let v = value_at(t, j);
+    if v < numbers.len() {
+        return wide(numbers[v]);
+    }
+    0
+}
+
+// Identifiers and literals are keys.
+fn to_key(t: &[u8], j: usize) -> bool
+    ensures { λ r. ⌜ r ≡ is-key (headAt (now (t .entry)) j) ⌝ }
+{
+    if role_at(t, j) != 8 {
+        return false;
+    }
+    let k = kind_at(t, j);
+    if k == 20 {
+        return true;
+    }
+    k == 21
+}
+
+// Node m, where it is a key equal to that of node j; else old.
+fn later_key(t: &[u8], numbers: &[u16], m: usize, j: usize, old: usize) -> usize
+    ensures { λ r. ⌜ r ≡ pick (is-key (headAt (now (t .entry)) m) && eqb (getD (now (numbers .entry)) (valueAt (now (t .entry)) m) 0) (getD (now (numbers .entry)) (valueAt (now (t .entry)) j) 0)) m old ⌝ }
+{
+    if to_key(t, m) {
+        if key_at(t, numbers, m) == key_at(t, numbers, j) {
+            return m;
+        }
+    }
+    old
+}
+
+// The last of the siblings from node i on that is a key equal to that of node j; j where there is none.
+fn previous(t: &[u8], numbers: &[u16], i: usize, j: usize) -> usize
+    requires { ⌜ Part (now t) i j ⌝ }
+    ensures { λ r. ⌜ clashes (now (numbers .entry)) (now (t .entry)) i j ≡ doubled (now (numbers .entry)) (now (t .entry)) r j ⌝ }
+{
+    let mut old = j;
+    let mut m = i;
+    while m < j {
+        old = later_key(t, numbers, m, j, old);
+        m += size_at(t, m);
+    }
+    old
+}
+
+// 16 at the previous equal key, for the key at node j.
+fn clash(t: &[u8], numbers: &[u16], i: usize, j: usize, out: &mut [u32], s: Sheet) -> Sheet
+    requires { ⌜ Part (now t) i j ⌝ }
+    ensures { λ r. ⌜ page (now (out .exit)) r ≡ writes (page (now (out .entry)) s) (listed (is-key (headAt (now (t .entry)) j)) (clashes (now (numbers .entry)) (now (t .entry)) i j) []) ⌝ }
+{
+    if to_key(t, j) {
+        let old = previous(t, numbers, i, j);
+        if old < j {
+            return put(
+                t,
+                out,
+                s,
+                Note {
+                    code: 16,
+                    at: old,
+                    value: Place::Node(j),
+                    second: Place::Node(j),
+                    third: Place::Nowhere,
+                },
+            );
+        }
+    }
+    s
+}
+
+// The keys of a dict with children from node i up to e.
+fn dict(t: &[u8], numbers: &[u16], i: usize, e: usize, out: &mut [u32], s: Sheet) -> Sheet
+    requires { ⌜ Part (now t) i e × (i ≤ e) ⌝ }
+    ensures { λ r. ⌜ page (now (out .exit)) r ≡ writes (page (now (out .entry)) s) (doubles (keyed (now (numbers .entry))) unsaid [] (keys (forestOf (now (t .entry)) i e))) ⌝ }
+{
+    let mut r = s;
+    let mut j = i;
+    while j < e {
+        r = clash(t, numbers, i, j, out, r);
+        j += size_at(t, j);
+    }
+    r
+}
+
+fn expr(t: &[u8], numbers: &[u16], i: usize, out: &mut [u32], s: Sheet) -> Sheet
+    requires { ⌜ Whole (now t) i ⌝ }
+    ensures { λ r. ⌜ page (now (out .exit)) r ≡ writes (page (now (out .entry)) s) (dict-at (keyed (now (numbers .entry))) unsaid (headAt (now (t .entry)) i) (forestOf (now (t .entry)) (i + 1) (i + sizeAt (now (t .entry)) i))) ⌝ }
+{
+    if kind_at(t, i) == 29 {
+        return dict(t, numbers, i + 1, i + size_at(t, i), out, s);
+    }
+    s
+}
+
+// 16, each node before its children.
+fn duplicate_dictionary_key(t: &[u8], numbers: &[u16], n: usize, out: &mut [u32], s: Sheet) -> Sheet
+    requires { ⌜ Part (now t) 0 n ⌝ }
+    ensures { λ r. ⌜ page (now (out .exit)) r ≡ writes (page (now (out .entry)) s) (each (dict-at (keyed (now (numbers .entry))) unsaid) (forestOf (now (t .entry)) 0 n)) ⌝ }
+{
+    let mut r = s;
+    let mut i = 0;
+    while i < n {
+        r = expr(t, numbers, i, out, r);
+        i += 1;
+    }
+    r
+}
+
+fn stmt(t: &[u8], i: usize, out: &mut [u32], s: Sheet) -> Sheet
+    requires { ⌜ Whole (now t) i ⌝ }
+    ensures { λ r. ⌜ page (now (out .exit)) r ≡ writes (page (now (out .entry)) s) (idle-at (headAt (now (t .entry)) i) (forestOf (now (t .entry)) (i + 1) (i + sizeAt (now (t .entry)) i))) ⌝ }
+{
+    if kind_at(t, i) != 5 {
+        return s;
+    }
+    let e = i + size_at(t, i);
+    let j = child_of(t, 4, i + 1, e);
+    if e <= j {
+        return s;
+    }
+    if kind_at(t, j) != 20 {
+        return s;
+    }
+    put(
+        t,
+        out,
+        s,
+        Note {
+            code: 17,
+            at: j,
+            value: Place::Node(j),
+            second: Place::Nowhere,
+            third: Place::Nowhere,
+        },
+    )
+}
+
+// 17, each node before its children.
+fn identifier_as_statement(t: &[u8], n: usize, out: &mut [u32], s: Sheet) -> Sheet
+    requires { ⌜ Part (now t) 0 n ⌝ }
+    ensures { λ r. ⌜ page (now (out .exit)) r ≡ writes (page (now (out .entry)) s) (each idle-at (forestOf (now (t .entry)) 0 n)) ⌝ }
+{
+    let mut r = s;
+    let mut i = 0;
+    while i < n {
+        r = stmt(t, i, out, r);
+        i += 1;
+    }
+    r
+}
+
+fn lint(t: &[u8], numbers: &[u16], n: usize, out: &mut [u32], s: Sheet) -> Sheet
+    requires { ⌜ Part (now t) 0 n ⌝ }
+    ensures { λ r. ⌜ page (now (out .exit)) r ≡ writes (page (now (out .entry)) s) (dubious (keyed (now (numbers .entry))) unsaid (forestOf (now (t .entry)) 0 n)) ⌝ }
+{
+    let r = duplicate_dictionary_key(t, numbers, n, out, s);
+    identifier_as_statement(t, n, out, r)
+}
+
+// The whole pass, on any bytes: counted first, into no room, and written where there is room for all.
+pub fn dubious(t: &[u8], mode: Mode, out: &mut [u32], tally: [usize; 17]) -> Answer
+    ensures { λ r. ⌜ (r ≡ answered (judged (now (t .entry))) (dubious-list mode (now (t .entry))) (now (out .entry)) tally) × (now (out .exit) ≡ room-after (judged (now (t .entry))) (dubious-list mode (now (t .entry))) (now (out .entry))) ⌝ }
+{
+    let j = judge(t);
+    let Judged::Valid(f) = j else {
+        return answer::refused(answer::refusal_of(j));
+    };
+    let n = f.nodes;
+    let numbers = key_numbers(t, mode);
+    let c = lint(t, &numbers, n, &mut out[..0], started(tally));
+    let records = c.count;
+    if out.len() / 8 < records {
+        return answer::refused(Refusal::AnswerRoom(records));
+    }
+    answer::listed(lint(t, &numbers, n, out, started(tally)))
+}
