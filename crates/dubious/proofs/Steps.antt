@@ -127,8 +127,8 @@ module _ (ns t : List ℕ) (j : ℕ) where
           record {
             hit = rw z (equal-here m v []);
             left =
-              rw z (before-same rest-keys (spotAt t m ∷ []) (spotAt t m ∷ at-most old) (equal-here m v [] ∙ sym (equal-here m v (at-most old))))
-              ∙ rw u at opened;
+                rw z (before-same rest-keys (spotAt t m ∷ []) (spotAt t m ∷ at-most old) (equal-here m v [] ∙ sym (equal-here m v (at-most old))))
+                ∙ rw u at opened;
           }
       go true false u v =
           record { hit = s .hit; left = before-same rest-keys (at-most old) (spotAt t m ∷ at-most old) (sym (other-here m v (at-most old))) ∙ rw u at opened }

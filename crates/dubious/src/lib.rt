@@ -25,11 +25,11 @@ use rules::Answer;
 use rules::Refusal;
 use tree::Judged;
 use tree::Mode;
-use tree::children::child_of;
 use tree::bytes::kind_at;
 use tree::bytes::role_at;
 use tree::bytes::size_at;
 use tree::bytes::value_at;
+use tree::children::child_of;
 use tree::judge;
 use tree::keys::key_numbers;
 

@@ -44,9 +44,10 @@ loop-less c =
 -- src/lib.rt:85:5
 loop-again : tie.Need-loop-again Inv-loop μ-loop
 loop-again c =
-    rw (c .size-at .ensures .0)
-    (rest (c .before .before .before .loop .inv .0) (c .before .before .loop-test .taken),
-    scan-step (c .before .before .before .before .before .before .args .numbers .now) (c .before .before .before .before .before .before .args .t .now) (c .before .before .before .before .before .before .args .j) (c .before .before .before .before .before .before .args .i) (c .before .before .before .loop .old) (c .before .before .before .loop .m) (c .before .later-key .result) (c .before .before .before .loop .inv .0) (c .before .before .loop-test .taken) (c .before .before .before .loop .inv .1) (c .before .later-key .ensures))
+    rw (c .size-at .ensures .0) (
+      rest (c .before .before .before .loop .inv .0) (c .before .before .loop-test .taken),
+      scan-step (c .before .before .before .before .before .before .args .numbers .now) (c .before .before .before .before .before .before .args .t .now) (c .before .before .before .before .before .before .args .j) (c .before .before .before .before .before .before .args .i) (c .before .before .before .loop .old) (c .before .before .before .loop .m) (c .before .later-key .result) (c .before .before .before .loop .inv .0) (c .before .before .loop-test .taken) (c .before .before .before .loop .inv .1) (c .before .later-key .ensures),
+    )
 
 -- src/lib.rt:79:1
 returns : tie.Need-returns Inv-loop μ-loop
