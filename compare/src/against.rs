@@ -1,0 +1,137 @@
+//! The Rust beside another program that speaks document 01's listing, or beside
+//! lists already written; the smallest file that differs is shown.
+use crate::batch;
+use crate::listing::Source::Rust;
+use crate::reduce::reduced;
+use crate::show::show;
+use std::io::{Read, Write};
+use std::process::{Command, Stdio};
+
+/// A program, and whether it takes many files at once or one at each start.
+pub struct Program {
+    pub words: Vec<String>,
+    pub each: bool,
+    /// Files for one start of a program that takes many.
+    pub chunk: usize,
+}
+
+impl Program {
+    fn run(&self, input: Vec<u8>) -> Result<String, String> {
+        let failed = |e: std::io::Error| format!("{}: {e}", self.words[0]);
+        let mut child = Command::new(&self.words[0])
+            .args(&self.words[1..])
+            .stdin(Stdio::piped())
+            .stdout(Stdio::piped())
+            .spawn()
+            .map_err(failed)?;
+        let mut to = child.stdin.take().expect("piped");
+        // Written beside the reading; a program that reads no further is no fault here.
+        let writer = std::thread::spawn(move || drop(to.write_all(&input)));
+        let mut out = Vec::new();
+        child.stdout.take().expect("piped").read_to_end(&mut out).map_err(failed)?;
+        writer.join().expect("the writer");
+        child.wait().map_err(failed)?;
+        Ok(String::from_utf8_lossy(&out).into_owned())
+    }
+
+    /// Its listing for each file.
+    pub fn lists(&self, files: &[Vec<u8>]) -> Result<Vec<String>, String> {
+        if self.each {
+            return files.iter().map(|f| self.run(f.clone())).collect();
+        }
+        let mut out: Vec<String> = Vec::new();
+        while out.len() < files.len() {
+            let part = &files[out.len()..files.len().min(out.len() + self.chunk)];
+            let mut lists = batch::split_lists(&self.run(batch::join(part))?);
+            lists.truncate(part.len());
+            // Where it stopped it has no answer; the rest goes to a new start.
+            if lists.len() < part.len() {
+                lists.push("no answer\n".to_owned());
+            }
+            out.extend(lists);
+        }
+        Ok(out)
+    }
+
+    /// A program for one file is document 01's own; one for many is the joined call.
+    fn wanted(&self, file: &[u8]) -> String {
+        if self.each {
+            Rust.listing(file, None)
+        } else {
+            Rust.answer(file, None)
+        }
+    }
+}
+
+/// What differs, counted, with the smallest.
+pub struct Differences {
+    pub files: usize,
+    pub count: usize,
+    smallest: Option<(Vec<u8>, String, String)>,
+}
+
+/// Nodes as written, then bytes.
+pub fn measure(file: &[u8]) -> (usize, usize) {
+    let nodes = file.get(5..7).map_or(0, |b| usize::from(u16::from_le_bytes([b[0], b[1]])));
+    (nodes, file.len())
+}
+
+impl Differences {
+    pub fn new() -> Differences {
+        Differences { files: 0, count: 0, smallest: None }
+    }
+
+    pub fn add(&mut self, file: &[u8], rust: &str, other: &str) {
+        self.files += 1;
+        if rust == other {
+            return;
+        }
+        self.count += 1;
+        let smaller = |s: &(Vec<u8>, String, String)| measure(file) < measure(&s.0);
+        if self.smallest.as_ref().is_none_or(smaller) {
+            self.smallest = Some((file.to_vec(), rust.to_owned(), other.to_owned()));
+        }
+    }
+
+    pub fn report(&self) -> String {
+        let mut out = format!("{} files, {} differ\n", self.files, self.count);
+        if let Some((file, rust, other)) = &self.smallest {
+            out += &format!("the smallest:\n{}the Rust:\n{rust}the other:\n{other}", show(file));
+        }
+        out
+    }
+
+    /// Cuts the smallest down while the two still differ on it.
+    pub fn reduce(&mut self, program: &Program) -> Result<(), String> {
+        let Some((file, ..)) = self.smallest.take() else { return Ok(()) };
+        let file = reduced(file, |files| {
+            let lists = program.lists(files)?;
+            Ok(files.iter().zip(lists).map(|(f, l)| program.wanted(f) != l).collect())
+        })?;
+        let other = program.lists(std::slice::from_ref(&file))?.remove(0);
+        self.smallest = Some((file.clone(), program.wanted(&file), other));
+        Ok(())
+    }
+}
+
+/// The Rust beside a program.
+pub fn against(program: &Program, files: &[Vec<u8>], reduce: bool) -> Result<Differences, String> {
+    let mut found = Differences::new();
+    for (file, list) in files.iter().zip(program.lists(files)?) {
+        found.add(file, &program.wanted(file), &list);
+    }
+    if reduce {
+        found.reduce(program)?;
+    }
+    Ok(found)
+}
+
+/// The Rust beside lists.
+pub fn with_lists(files: &[Vec<u8>], lists: &[String]) -> Result<Differences, String> {
+    if files.len() != lists.len() {
+        return Err(format!("{} files but {} lists", files.len(), lists.len()));
+    }
+    let mut found = Differences::new();
+    files.iter().zip(lists).for_each(|(f, l)| found.add(f, &Rust.answer(f, None), l));
+    Ok(found)
+}

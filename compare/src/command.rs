@@ -1,0 +1,198 @@
+//! The command line.
+use crate::against::{against, with_lists, Program};
+use crate::batch::{self, input, print, print_all};
+use crate::coverage::Coverage;
+use crate::judge::judge;
+use crate::listing::{Source, PASSES};
+use crate::make::Plan;
+use crate::recorded::{self, Limits};
+use crate::rules::Mode;
+use crate::show::show;
+use std::path::Path;
+
+const USAGE: &str = "usage:
+  compare list [--pass P] [--batch]   the Rust's listing of the file or files on standard input
+  compare rules [--pass P] [--batch] [--strict]
+                                      the same by document 01's rules, without the Rust
+  compare judge [--batch]             `valid` or `refused N P`
+  compare show                        a file's nodes by name
+  compare make [--seed S] [--from I] [--count N] [--any-order] [--damage]
+                                      generated files, each after its length, on standard output
+  compare coverage FILES..            what files show
+  compare lists FILES LISTS           the Rust beside lists written before
+  compare against [--each] [--chunk N] [--as-found] FILES.. -- PROGRAM ..
+                                      the Rust beside a program
+  compare record [--seed S] [--count N] [--bytes N] FOLDER
+                                      chooses and writes the recorded list
+P: names, flow, incompatible, dubious. FILES hold many files, each after its length.";
+
+/// Words of a command line: flags with and without a value, and the rest.
+struct Words {
+    flags: Vec<(String, Option<String>)>,
+    rest: Vec<String>,
+    after: Vec<String>,
+}
+
+impl Words {
+    fn new(words: &[String], valued: &[&str], plain: &[&str]) -> Result<Words, String> {
+        let mut out = Words { flags: vec![], rest: vec![], after: vec![] };
+        let mut words = words.iter().cloned();
+        while let Some(word) = words.next() {
+            if word == "--" {
+                out.after = words.collect();
+                break;
+            } else if valued.contains(&&*word) {
+                let value = words.next().ok_or(format!("{word} wants a value"))?;
+                out.flags.push((word, Some(value)));
+            } else if plain.contains(&&*word) {
+                out.flags.push((word, None));
+            } else if word.starts_with("--") {
+                return Err(format!("unknown {word}\n{USAGE}"));
+            } else {
+                out.rest.push(word);
+            }
+        }
+        Ok(out)
+    }
+
+    fn has(&self, flag: &str) -> bool {
+        self.flags.iter().any(|f| f.0 == flag)
+    }
+
+    fn number(&self, flag: &str, default: u64) -> Result<u64, String> {
+        match self.flags.iter().rev().find(|f| f.0 == flag) {
+            Some((_, Some(text))) => text.parse().map_err(|_| format!("{flag} wants a number")),
+            _ => Ok(default),
+        }
+    }
+
+    fn text(&self, flag: &str) -> Option<&str> {
+        self.flags.iter().rev().find(|f| f.0 == flag).and_then(|f| f.1.as_deref())
+    }
+
+    /// Every file of the named heaps.
+    fn files(&self) -> Result<Vec<Vec<u8>>, String> {
+        let mut out = Vec::new();
+        for path in &self.rest {
+            out.extend(batch::read(Path::new(path))?);
+        }
+        Ok(out)
+    }
+}
+
+/// Whether all was as it should be.
+pub fn run(words: &[String]) -> Result<bool, String> {
+    let (command, words) = words.split_first().ok_or(USAGE)?;
+    match command.as_str() {
+        "list" => list(Words::new(words, &["--pass"], &["--batch"])?, Source::Rust),
+        "rules" => {
+            let words = Words::new(words, &["--pass"], &["--batch", "--strict"])?;
+            let mode = if words.has("--strict") { Mode::Strict } else { Mode::Ordinary };
+            list(words, Source::Rules(mode))
+        }
+        "judge" => judged(Words::new(words, &[], &["--batch"])?),
+        "show" => {
+            print(show(&input()).as_bytes());
+            Ok(true)
+        }
+        "make" => make(Words::new(words, &["--seed", "--from", "--count"], &["--any-order", "--damage"])?),
+        "coverage" => coverage(Words::new(words, &[], &[])?),
+        "lists" => lists(Words::new(words, &[], &[])?),
+        "record" => record(Words::new(words, &["--seed", "--count", "--bytes"], &[])?),
+        "against" => beside(Words::new(words, &["--chunk"], &["--each", "--as-found"])?),
+        _ => Err(USAGE.to_owned()),
+    }
+}
+
+/// An answer for the one file on standard input, or for each of many.
+fn answers(
+    many: bool,
+    one: impl Fn(&[u8]) -> String,
+    each: impl Fn(&[u8]) -> String,
+) -> Result<bool, String> {
+    let input = input();
+    if !many {
+        print(one(&input).as_bytes());
+        return Ok(true);
+    }
+    let files = batch::split(&input)?;
+    print_all(files.iter().map(|f| (each(f) + "--\n").into_bytes()));
+    Ok(true)
+}
+
+fn list(words: Words, source: Source) -> Result<bool, String> {
+    let pass = match words.text("--pass") {
+        None => None,
+        Some(name) => Some(PASSES.iter().position(|p| *p == name).ok_or(USAGE)?),
+    };
+    answers(words.has("--batch"), |f| source.listing(f, pass), |f| source.answer(f, pass))
+}
+
+fn judged(words: Words) -> Result<bool, String> {
+    let verdict = |f: &[u8]| match judge(f) {
+        None => "valid\n".to_owned(),
+        Some((number, place)) => format!("refused {number} {place}\n"),
+    };
+    answers(words.has("--batch"), verdict, verdict)
+}
+
+fn plan(words: &Words) -> Result<Plan, String> {
+    let seed = words.number("--seed", 1)?;
+    Ok(Plan { seed, any_order: words.has("--any-order"), damage: words.has("--damage") })
+}
+
+fn make(words: Words) -> Result<bool, String> {
+    let plan = plan(&words)?;
+    let from = words.number("--from", 0)?;
+    let count = words.number("--count", 1)?;
+    let mut wrong = None;
+    print_all((from..from + count).map_while(|index| {
+        let file = plan.file(index);
+        if !plan.damage && judge(&file).is_some() {
+            wrong = Some(index);
+            return None;
+        }
+        Some(batch::join(&[file]))
+    }));
+    match wrong {
+        None => Ok(true),
+        Some(index) => Err(format!("made a file that isn't valid: {}", plan.words(index))),
+    }
+}
+
+fn coverage(words: Words) -> Result<bool, String> {
+    let mut found = Coverage::default();
+    words.files()?.iter().for_each(|f| found.add(f));
+    print(found.report().as_bytes());
+    Ok(true)
+}
+
+fn lists(words: Words) -> Result<bool, String> {
+    let [files, lists] = words.rest.as_slice() else { return Err(USAGE.to_owned()) };
+    let (files, lists) = (batch::read(Path::new(files))?, batch::read_lists(Path::new(lists))?);
+    let found = with_lists(&files, &lists)?;
+    print(found.report().as_bytes());
+    Ok(found.count == 0)
+}
+
+fn beside(words: Words) -> Result<bool, String> {
+    if words.after.is_empty() {
+        return Err(USAGE.to_owned());
+    }
+    let chunk = words.number("--chunk", 1000)?.max(1) as usize;
+    let program = Program { words: words.after.clone(), each: words.has("--each"), chunk };
+    let found = against(&program, &words.files()?, !words.has("--as-found"))?;
+    print(found.report().as_bytes());
+    Ok(found.count == 0)
+}
+
+fn record(words: Words) -> Result<bool, String> {
+    let [folder] = words.rest.as_slice() else { return Err(USAGE.to_owned()) };
+    let limits = Limits {
+        seed: words.number("--seed", 7)?,
+        count: words.number("--count", 20000)?,
+        bytes: words.number("--bytes", 396000)? as usize,
+    };
+    print(recorded::write(&limits, Path::new(folder))?.as_bytes());
+    Ok(true)
+}

@@ -1,0 +1,122 @@
+//! What a heap of files shows: codes, kinds, roles, places of kinds, refusals.
+use crate::judge::judge;
+use crate::kinds::{self, KINDS};
+use crate::listing::records;
+use crate::tree::{Node, Tree};
+use std::collections::{BTreeMap, BTreeSet};
+use std::fmt::Write;
+
+/// A kind below a kind in a role.
+pub type Edge = (u8, u8, u8);
+
+/// Every edge that a valid tree can have.
+pub fn edges() -> BTreeSet<Edge> {
+    let mut out = BTreeSet::new();
+    for parent in &KINDS {
+        for slot in parent.slots {
+            let fits = KINDS.iter().filter(|k| kinds::belongs(k.kind, slot.class));
+            out.extend(fits.map(|child| (parent.kind, slot.role, child.kind)));
+        }
+    }
+    out
+}
+
+pub fn edges_of(node: &Node, out: &mut BTreeSet<Edge>) {
+    for child in &node.children {
+        out.insert((node.kind, child.role, child.kind));
+        edges_of(child, out);
+    }
+}
+
+/// The most for statements that stand in one another.
+fn loops(node: &Node) -> usize {
+    node.children.iter().map(loops).max().unwrap_or(0) + usize::from(node.kind == 11)
+}
+
+#[derive(Default)]
+pub struct Coverage {
+    files: usize,
+    valid: usize,
+    panics: usize,
+    codes: BTreeMap<u32, usize>,
+    kinds: BTreeMap<u8, usize>,
+    roles: BTreeMap<u8, usize>,
+    refusals: BTreeMap<u32, usize>,
+    places: BTreeMap<u32, BTreeSet<usize>>,
+    edges: BTreeSet<Edge>,
+    loops: BTreeMap<usize, usize>,
+    limits: BTreeMap<&'static str, usize>,
+}
+
+impl Coverage {
+    pub fn add(&mut self, bytes: &[u8]) {
+        self.files += 1;
+        if let Some((number, place)) = judge(bytes) {
+            *self.refusals.entry(number).or_default() += 1;
+            self.places.entry(number).or_default().insert(place);
+            return;
+        }
+        self.valid += 1;
+        let tree = Tree::read(bytes);
+        let (mut kinds, mut roles) = (BTreeSet::new(), BTreeSet::new());
+        tree.root.each(&mut |x| {
+            kinds.insert(x.kind);
+            roles.insert(x.role);
+        });
+        kinds.into_iter().for_each(|k| *self.kinds.entry(k).or_default() += 1);
+        roles.into_iter().for_each(|k| *self.roles.entry(k).or_default() += 1);
+        edges_of(&tree.root, &mut self.edges);
+        *self.loops.entry(loops(&tree.root)).or_default() += 1;
+        self.limits(&tree);
+        match records(bytes) {
+            None => self.panics += 1,
+            Some(passes) => {
+                let codes: BTreeSet<u32> = passes.concat().iter().map(|r| r[0]).collect();
+                codes.into_iter().for_each(|c| *self.codes.entry(c).or_default() += 1);
+            }
+        }
+    }
+
+    fn limits(&mut self, tree: &Tree) {
+        let values = tree.values();
+        let longest = |kind| values.iter().filter(|v| v.0 == kind).map(|v| v.1.len()).max().unwrap_or(0);
+        let globals = tree.globals.as_ref().map_or(0, Vec::len);
+        let facts = [
+            ("1,024 nodes", tree.root.size() == 1024),
+            ("512 values", values.len() == 512),
+            ("512 globals", globals == 512),
+            ("globals given", tree.globals.is_some()),
+            ("depth 48", tree.root.depth() == 48),
+            ("a name of 255 bytes", longest(0) == 255),
+            ("a string of 255 bytes", longest(1) == 255),
+            ("an integer of 64 bytes", longest(3) == 64),
+        ];
+        facts.iter().filter(|f| f.1).for_each(|f| *self.limits.entry(f.0).or_default() += 1);
+    }
+
+    pub fn report(&self) -> String {
+        let mut out = String::new();
+        let mut line = |name: &str, text: String| writeln!(out, "{name}: {text}").unwrap();
+        line("files", format!("{} ({} valid, the Rust panicked on {})", self.files, self.valid, self.panics));
+        line("trees by code", counted((1..=17).map(|c| (c, self.codes.get(&c)))));
+        line("trees by kind", counted(KINDS.iter().map(|k| (k.kind, self.kinds.get(&k.kind)))));
+        line("trees by role", counted((0..=8).map(|c| (c, self.roles.get(&c)))));
+        line("files by refusal", counted((1..=9).map(|c| (c, self.refusals.get(&c)))));
+        let places = (5..=9).map(|c| (c, self.places.get(&c).and_then(|p| p.last())));
+        line("highest place by refusal", counted(places));
+        line("trees by loops in one another", counted((0..=12).map(|c| (c, self.loops.get(&c)))));
+        for (name, count) in &self.limits {
+            line(name, count.to_string());
+        }
+        let all = edges();
+        let missing: Vec<&Edge> = all.difference(&self.edges).collect();
+        let some = missing.iter().take(20).map(|(k, r, c)| format!(" {k}/{r}/{c}")).collect::<String>();
+        let (seen, known) = (all.len() - missing.len(), all.len());
+        line("kind below kind in a role", format!("{seen} of {known}, missing{some}"));
+        out
+    }
+}
+
+fn counted<'a, K: std::fmt::Display>(all: impl Iterator<Item = (K, Option<&'a usize>)>) -> String {
+    all.map(|(k, n)| format!("{k}:{}", n.unwrap_or(&0))).collect::<Vec<_>>().join(" ")
+}

@@ -1,0 +1,86 @@
+//! Document 01's listing, with the Rust behind it.
+use crate::judge::judge;
+use crate::rules::{self, Mode};
+use originals::Record;
+use std::cell::Cell;
+use std::fmt::Write;
+
+pub const PASSES: [&str; 4] = ["names", "flow", "incompatible", "dubious"];
+const ROOM: usize = 2048;
+const LONGEST: usize = 49152;
+
+thread_local! {
+    static IN_THE_RUST: Cell<bool> = const { Cell::new(false) };
+}
+
+/// The Rust's panics are answers here, not noise; others are shown.
+pub fn hush_the_rust() {
+    let usual = std::panic::take_hook();
+    std::panic::set_hook(Box::new(move |x| {
+        if !IN_THE_RUST.get() {
+            usual(x)
+        }
+    }));
+}
+
+/// The Rust's records for a valid file; `None` where the Rust panicked.
+pub fn records(bytes: &[u8]) -> Option<[Vec<Record>; 4]> {
+    IN_THE_RUST.set(true);
+    let out = std::panic::catch_unwind(|| originals::records(bytes)).ok();
+    IN_THE_RUST.set(false);
+    out
+}
+
+fn lines(records: &[Record]) -> String {
+    let mut out = String::new();
+    for record in records {
+        let numbers: Vec<String> = record.iter().map(u32::to_string).collect();
+        writeln!(out, "{}", numbers.join(" ")).unwrap();
+    }
+    writeln!(out, "total {}", records.len()).unwrap();
+    out
+}
+
+/// Who says what the records of a valid file are.
+#[derive(Clone, Copy)]
+pub enum Source {
+    /// The four files, unchanged; strict keys are not theirs.
+    Rust,
+    /// Document 01 as rules.rs reads it.
+    Rules(Mode),
+}
+
+impl Source {
+    fn records(self, bytes: &[u8]) -> Option<[Vec<Record>; 4]> {
+        match self {
+            Source::Rust => records(bytes),
+            Source::Rules(mode) => Some(rules::records(bytes, mode)),
+        }
+    }
+
+    /// What the listing program prints; of all passes, or of one alone.
+    pub fn listing(self, bytes: &[u8], pass: Option<usize>) -> String {
+        if bytes.len() > LONGEST {
+            return "too long\n".to_owned();
+        }
+        self.answer(bytes, pass)
+    }
+
+    /// The same for a file of any length, as the joined call would answer.
+    pub fn answer(self, bytes: &[u8], pass: Option<usize>) -> String {
+        if let Some((number, place)) = judge(bytes) {
+            return format!("refused {number} {place}\n");
+        }
+        let Some(passes) = self.records(bytes) else {
+            return "panic\n".to_owned();
+        };
+        let all = match pass {
+            Some(i) => passes[i].clone(),
+            None => passes.concat(),
+        };
+        if all.len() > ROOM {
+            return format!("refused 11 {}\n", all.len());
+        }
+        lines(&all)
+    }
+}

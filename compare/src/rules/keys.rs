@@ -1,0 +1,74 @@
+//! Dubious (003): equal keys, and identifiers as statements.
+use super::view::{record, View, NO_SPAN};
+use originals::Record;
+use std::collections::HashMap;
+
+/// Which whole numbers are the same number in either form.
+#[derive(Clone, Copy)]
+pub enum Mode {
+    Ordinary,
+    Strict,
+}
+
+/// Equal keys have equal forms.
+#[derive(PartialEq, Eq, Hash)]
+enum Key {
+    Whole(u64),
+    Value(u16),
+}
+
+impl Mode {
+    fn bound(self) -> u64 {
+        match self {
+            Mode::Ordinary => 1 << 31,
+            Mode::Strict => 1 << 53,
+        }
+    }
+
+    fn key(self, view: &View, i: usize) -> Option<Key> {
+        if !matches!(view.kind(i), 20 | 21) {
+            return None;
+        }
+        let (kind, bytes) = view.table(view.value(i));
+        let whole = match kind {
+            3 if bytes.len() <= 8 => Some(bytes.iter().fold(0, |n, b| n << 8 | u64::from(*b))),
+            4 => {
+                let float = f64::from_bits(u64::from_le_bytes(bytes.try_into().expect("eight bytes")));
+                (float.fract() == 0.0 && float < 9e18).then_some(float as u64)
+            }
+            _ => None,
+        };
+        let same = whole.filter(|n| *n < self.bound()).map(Key::Whole);
+        Some(same.unwrap_or(Key::Value(view.value(i))))
+    }
+}
+
+pub fn list(view: &View, mode: Mode) -> Vec<Record> {
+    let mut out = Vec::new();
+    view.expressions(0).into_iter().for_each(|x| keys(view, mode, x, &mut out));
+    identifiers(view, 0, &mut out);
+    out
+}
+
+fn keys(view: &View, mode: Mode, i: usize, out: &mut Vec<Record>) {
+    if view.kind(i) == 29 {
+        let mut previous = HashMap::new();
+        for later in view.with_role(i, 8) {
+            let Some(key) = mode.key(view, later) else { continue };
+            if let Some(before) = previous.insert(key, later) {
+                out.push(record(16, view.span(before), view.value(later), view.span(later), NO_SPAN));
+            }
+        }
+    }
+    view.expressions(i).into_iter().for_each(|x| keys(view, mode, x, out));
+}
+
+fn identifiers(view: &View, i: usize, out: &mut Vec<Record>) {
+    if view.kind(i) == 5 {
+        let x = view.one(i, 4);
+        if view.kind(x) == 20 {
+            out.push(record(17, view.span(x), view.value(x), NO_SPAN, NO_SPAN));
+        }
+    }
+    view.statements(i).into_iter().for_each(|x| identifiers(view, x, out));
+}

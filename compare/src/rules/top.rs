@@ -1,0 +1,69 @@
+//! Incompatible (002): type checks, and what the top level assigns twice.
+use super::view::{record, Span, View, NO_SPAN};
+use originals::Record;
+use std::collections::{HashMap, HashSet};
+
+const TYPES: [&[u8]; 5] = [b"bool", b"tuple", b"str", b"list", b"int"];
+
+pub fn list(view: &View) -> Vec<Record> {
+    let mut out = Vec::new();
+    view.expressions(0).into_iter().for_each(|x| type_check(view, x, &mut out));
+    Top { view, first: HashMap::new(), freed: HashSet::new(), out: &mut out }.statement(0);
+    out
+}
+
+fn type_check(view: &View, i: usize, out: &mut Vec<Record>) {
+    if matches!(view.kind(i), 31 | 32) {
+        let (left, right) = (view.one(i, 1), view.one(i, 2));
+        let called = view.kind(left) == 23
+            && view.is_identifier(view.one(left, 7), b"type")
+            && view.with_role(left, 0).len() == 1;
+        if called && TYPES.iter().any(|t| view.is_identifier(right, t)) {
+            out.push(record(14, view.span(i), view.value(right), NO_SPAN, NO_SPAN));
+        }
+    }
+    view.expressions(i).into_iter().for_each(|x| type_check(view, x, out));
+}
+
+struct Top<'a> {
+    view: &'a View,
+    /// Where a name was first defined, and whether by a load.
+    first: HashMap<u16, (Span, bool)>,
+    /// Names whose x = x has been let pass.
+    freed: HashSet<u16>,
+    out: &'a mut Vec<Record>,
+}
+
+impl Top<'_> {
+    fn define(&mut self, i: usize, load: bool) {
+        let (span, name) = (self.view.span(i), self.view.value(i));
+        match self.first.get(&name) {
+            Some((first, _)) => self.out.push(record(15, span, name, *first, NO_SPAN)),
+            None => {
+                self.first.insert(name, (span, load));
+            }
+        }
+    }
+
+    /// x = x, where x was first defined by a load, and no such before.
+    fn is_free(&mut self, i: usize) -> bool {
+        let (target, value) = (self.view.one(i, 5), self.view.one(i, 4));
+        let name = self.view.value(target);
+        self.view.kind(target) == 40
+            && self.view.kind(value) == 20
+            && self.view.value(value) == name
+            && self.first.get(&name).is_some_and(|f| f.1)
+            && self.freed.insert(name)
+    }
+
+    fn statement(&mut self, i: usize) {
+        let view = self.view;
+        match view.kind(i) {
+            6 if self.is_free(i) => {}
+            6 | 7 => view.target_names(view.one(i, 5)).into_iter().for_each(|x| self.define(x, false)),
+            12 => self.define(view.one(i, 6), false),
+            13 => view.children(i).into_iter().for_each(|x| self.define(x, true)),
+            _ => view.statements(i).into_iter().for_each(|x| self.statement(x)),
+        }
+    }
+}
