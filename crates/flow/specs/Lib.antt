@@ -1,0 +1,3 @@
+-- What the contracts of flow cite.
+pub mod Returns
+pub mod Walks

@@ -1,0 +1,66 @@
+// Flow (001), after flow.rs: five walks in order.
+// Cost: each walk visits a node a bounded number of times; the deepest calls follow the depth of the tree, 48.
+ghost use mathlib.Core.Path.{_≡_};
+ghost use lib.Dec.{eqb};
+ghost use Rattle.tree.specs.Forest.{forestOf};
+ghost use Rattle.tree.specs.Judge.{judged};
+ghost use Rattle.rules.specs.Flow.{flow, flow-list};
+ghost use Rattle.rules.specs.Outcome.{answered, room-after};
+ghost use Rattle.answer.specs.Page.{writes, page};
+ghost use Rattle.flow.specs.Returns.{Checked};
+ghost use Rattle.flow.specs.Walks.{is-text};
+use answer::Sheet;
+use answer::started;
+use rules::Answer;
+use rules::Refusal;
+use tree::Judged;
+use tree::judge;
+use tree::lookup::number_of;
+use tree::lookup::strings;
+
+mod effect;
+mod ends;
+mod last;
+mod loads;
+mod reach;
+mod redundant;
+mod returns;
+
+fn lint(
+    t: &[u8],
+    fail: usize,
+    none: usize,
+    strings: &[bool; 512],
+    n: usize,
+    out: &mut [u32],
+    s: Sheet,
+) -> Sheet
+    requires { ⌜ Checked (now t) n ⌝ }
+    ensures { λ r. ⌜ page (now (out .exit)) r ≡ writes (page (now (out .entry)) s) (flow (λ v. eqb v fail) (λ v. eqb v none) (is-text (now (strings .entry))) (forestOf (now (t .entry)) 0 n)) ⌝ }
+{
+    let a = returns::stmt(t, fail, none, n, out, s);
+    let b = reach::whole(t, fail, n, out, a);
+    let c = redundant::redundant(t, n, out, b);
+    let d = loads::misplaced_load(t, strings, n, out, c);
+    effect::no_effect(t, strings, n, out, d)
+}
+
+// The whole pass, on any bytes: counted first, into no room, and written where there is room for all.
+pub fn flow(t: &[u8], out: &mut [u32], tally: [usize; 17]) -> Answer
+    ensures { λ r. ⌜ (r ≡ answered (judged (now (t .entry))) (flow-list (now (t .entry))) (now (out .entry)) tally) × (now (out .exit) ≡ room-after (judged (now (t .entry))) (flow-list (now (t .entry))) (now (out .entry))) ⌝ }
+{
+    let j = judge(t);
+    let Judged::Valid(f) = j else {
+        return answer::refused(answer::refusal_of(j));
+    };
+    let n = f.nodes;
+    let fail = number_of(t, b"fail");
+    let none = number_of(t, b"None");
+    let texts = strings(t);
+    let c = lint(t, fail, none, &texts, n, &mut out[..0], started(tally));
+    let records = c.count;
+    if out.len() / 8 < records {
+        return answer::refused(Refusal::AnswerRoom(records));
+    }
+    answer::listed(lint(t, fail, none, &texts, n, out, started(tally)))
+}

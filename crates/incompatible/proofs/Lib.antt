@@ -1,0 +1,5 @@
+-- Laws of the pass.
+pub mod Checks
+pub mod Told
+pub mod Deeds
+pub mod Valid

@@ -1,0 +1,45 @@
+// Incompatible (002), after incompatible.rs: 14 type check, then 15 duplicate top-level assignment.
+// Cost: linear in the nodes. Stack: 1.5 KiB for what is defined, by value number.
+ghost use mathlib.Core.Path.{_≡_};
+ghost use Rattle.tree.specs.Forest.{forestOf, Part};
+ghost use Rattle.tree.specs.Judge.{judged};
+ghost use Rattle.rules.specs.Incompatible.{once, incompatible, incompatible-list};
+ghost use Rattle.rules.specs.Outcome.{answered, room-after};
+ghost use Rattle.answer.specs.Page.{writes, page};
+ghost use Rattle.incompatible.specs.Ground.{Low};
+ghost use Rattle.incompatible.specs.Five.{is, five};
+use answer::Sheet;
+use answer::started;
+use rules::Answer;
+use rules::Refusal;
+use tree::Judged;
+use tree::judge;
+
+mod assigns;
+mod types;
+
+fn lint(t: &[u8], names: types::Types, n: usize, out: &mut [u32], s: Sheet) -> Sheet
+    requires { ⌜ Part (now t) 0 n × Low (now t) n ⌝ }
+    ensures { λ r. ⌜ page (now (out .exit)) r ≡ writes (page (now (out .entry)) s) (incompatible once (is (names .call)) (five names) (forestOf (now (t .entry)) 0 n)) ⌝ }
+{
+    let r = types::bad_type_equality(t, names, n, out, s);
+    assigns::duplicate_top_level_assignment(t, n, out, r)
+}
+
+// The whole pass, on any bytes: counted first, into no room, and written where there is room for all.
+pub fn incompatible(t: &[u8], out: &mut [u32], tally: [usize; 17]) -> Answer
+    ensures { λ r. ⌜ (r ≡ answered (judged (now (t .entry))) (incompatible-list (now (t .entry))) (now (out .entry)) tally) × (now (out .exit) ≡ room-after (judged (now (t .entry))) (incompatible-list (now (t .entry))) (now (out .entry))) ⌝ }
+{
+    let j = judge(t);
+    let Judged::Valid(f) = j else {
+        return answer::refused(answer::refusal_of(j));
+    };
+    let n = f.nodes;
+    let names = types::types_of(t);
+    let c = lint(t, names, n, &mut out[..0], started(tally));
+    let records = c.count;
+    if out.len() / 8 < records {
+        return answer::refused(Refusal::AnswerRoom(records));
+    }
+    answer::listed(lint(t, names, n, out, started(tally)))
+}
