@@ -17,13 +17,17 @@ fn number(n: usize) {
     io::print_decimal(STDOUT_FILENO, n as u64);
 }
 
+fn wide(x: u32) -> u64 {
+    x as u64
+}
+
 // Word k, after a space but for the first of a record.
 fn word(out: &[u32], k: usize) {
     if 0 < k % 8 {
         text(b" ");
     }
     if k < out.len() {
-        io::print_decimal(STDOUT_FILENO, out[k] as u64);
+        io::print_decimal(STDOUT_FILENO, wide(out[k]));
     }
     if k % 8 == 7 {
         text(b"\n");
@@ -62,11 +66,16 @@ fn show(o: Outcome, out: &[u32]) {
 fn passes(t: &[u8], out: &mut [u32]) {
     let zero = [0usize; 17];
     let a = flow::flow(t, out, zero);
-    show(a.outcome, out);
-    let b = incompatible::incompatible(t, out, a.tally);
-    show(b.outcome, out);
-    let c = dubious::dubious(t, Mode::Ordinary, out, b.tally);
-    show(c.outcome, out);
+    let flow_list = a.outcome;
+    show(flow_list, out);
+    let flow_tally = a.tally;
+    let b = incompatible::incompatible(t, out, flow_tally);
+    let incompatible_list = b.outcome;
+    show(incompatible_list, out);
+    let both_tally = b.tally;
+    let c = dubious::dubious(t, Mode::Ordinary, out, both_tally);
+    let dubious_list = c.outcome;
+    show(dubious_list, out);
 }
 
 fn file(t: &[u8]) {
