@@ -1,0 +1,28 @@
+use Prim.Native.Nat.{_-_}
+use mathlib.Core.Path.{_≡_, sym, _∙_}
+use mathlib.Core.Bool.{true, false}
+use lib.Dec.{eqb}
+use Rattle.tree.specs.Bytes.{valueAt}
+use Rattle.names.specs.Words.{alikeAt, resetOf}
+use borrow.Author.Needs.{needs}
+use Rattle.names.proofs.scope.reset.Statement.{statement}
+use Rattle.names.proofs.scope.reset.Tie as tie
+
+same-name-requires : tie.Need-same-name-requires
+same-name-requires c κs = search needs
+
+same-spot-requires : tie.Need-same-spot-requires
+same-spot-requires c κs = search needs
+
+returns : tie.Need-returns
+unfolding alikeAt resetOf
+returns c =
+    let q : eqb (valueAt ((c .before .before .before .before .args) .t .now) ((c .before .before .before .before .args) .k)) (valueAt ((c .before .before .before .before .args) .t .now) ((c .before .before .before .before .args) .i)) ≡ true = sym ((c .before .before .same-name) .ensures) ∙ (c .before .if1) .taken in rw (q, (c .same-spot) .ensures)
+
+returns-2 : tie.Need-returns-2
+unfolding alikeAt resetOf
+returns-2 c =
+    let q : eqb (valueAt ((c .before .before .before .args) .t .now) ((c .before .before .before .args) .k)) (valueAt ((c .before .before .before .args) .t .now) ((c .before .before .before .args) .i)) ≡ false = sym ((c .before .same-name) .ensures) ∙ (c .if1) .left in rw q
+
+pub reset-spec : {M : Type 1} → statement M
+reset-spec = tie.close (tie.spec same-name-requires same-spot-requires returns returns-2)

@@ -1,0 +1,70 @@
+-- What `compound` leaves. Assumes nothing.
+use borrow.Author.Needs.{needs}
+use Prim.Native.Nat.{ℕ, _+_, _*_, _-_, _<_, _≤_}
+use native.Mathlib.Omega.{arith}
+use mathlib.Core.Path.{_≡_, refl, sym, ap, _∙_}
+use mathlib.Core.List.{List}
+use lib.ListN.{length}
+use Rattle.tree.specs.Bytes.{sizeAt}
+use Rattle.tree.specs.Forest.{Part}
+use Rattle.tree.proofs.Laws.{rest, sized, ended}
+use Rattle.rules.specs.Order.{fails}
+use Rattle.names.specs.State.{Fits}
+use Rattle.names.specs.Walk.{Goes, wantOf, visitOf, clausesOf}
+use Rattle.names.specs.declared.scope.Abort.the-variants.{Loop, Function}
+use Rattle.names.specs.declared.scope.Scope.{Scope}
+use Rattle.names.proofs.Going.{skips, then, goes-as, goes-to, goes-fits, back-fits, enter-fits, stop-to, sides-to, turns-to, scopes-to, leave-asks}
+use Rattle.names.proofs.Parts.{node-of, node-few, node-break, node-continue, node-return, node-expression, node-assign, node-modify, node-statements, node-if, node-if-else, node-for, node-def, node-load, node-identifier, node-lambda, node-list, node-dict, node-statement, node-other, over-there, over-none, bound-there, bound-none, clause-after, nine-on, twelve-off, ten-left}
+use Rattle.names.proofs.Rows.{visit-on, visit-last, clauses-on, clauses-last, kids-as, down-as, kid-as, node-zero, node-more, below-ends, below-node, below-rest, cond-true, cond-false, pick-true, pick-false, return-node, clause-none, clause-there, regroup, loop-once, loop-twice}
+use Rattle.names.proofs.Held.{methods}
+use Rattle.names.proofs.walk.compound.Reads as compound
+use Rattle.names.proofs.walk.+assign+bound+branch+clause+clauses+compound+comprehension+conditional+def+down+expression+function+inside+lambda+modify+one+over+plain+returned+round+rounds+side+simple+stated+step+target+visit.Lts-compound as compound-lts
+use Rattle.names.proofs.walk.+assign+bound+branch+clause+clauses+compound+comprehension+conditional+def+down+expression+function+inside+lambda+modify+one+over+plain+returned+round+rounds+side+simple+stated+step+target+visit.Proof.Base.{compound-at, compound-calls}
+
+pub compound-down-requires : (t : ℕ) → compound-lts.Need-down-requires (compound-calls t) (compound-at t) compound.Post
+compound-down-requires t c κs =
+    (omega (arith, (c .before .before .before .before .pre .0)), ((c .before .before .before .before .pre .1 .4), (c .before .before .before .before .pre .1 .5)))
+
+pub compound-same-length : (t : ℕ) → compound-lts.Need-same-length (compound-calls t) (compound-at t) compound.Post
+compound-same-length t c =
+    search needs
+
+pub compound-returns : (t : ℕ) → compound-lts.Need-returns (compound-calls t) (compound-at t) compound.Post
+compound-returns t c =
+    goes-as (node-statements _ _ _ (sym (c .before .before .before .before .before .before .before .pre .1 .0) ∙ c .before .before .before .before .if1 .taken)) (c .before .before .down .ensures)
+
+pub compound-def-requires : (t : ℕ) → compound-lts.Need-def-requires (compound-calls t) (compound-at t) compound.Post
+compound-def-requires t c κs =
+    (omega (arith, (c .before .before .before .before .before .pre .0)), ((sym (c .before .before .before .before .before .pre .1 .0) ∙ c .before .if2 .taken), (c .before .before .before .before .before .pre .1 .4), (c .before .before .before .before .before .pre .1 .5)))
+
+pub compound-same-length-2 : (t : ℕ) → compound-lts.Need-same-length-2 (compound-calls t) (compound-at t) compound.Post
+compound-same-length-2 t c =
+    search needs
+
+pub compound-returns-2 : (t : ℕ) → compound-lts.Need-returns-2 (compound-calls t) (compound-at t) compound.Post
+compound-returns-2 t c =
+    (c .before .before .def .ensures)
+
+pub compound-bind-requires : (t : ℕ) → compound-lts.Need-bind-requires (compound-calls t) (compound-at t) compound.Post
+compound-bind-requires t c κs =
+    (node-zero (c .before .before .before .before .before .before .pre .1 .4), (c .before .before .before .before .before .before .pre .1 .5))
+
+pub compound-same-length-3 : (t : ℕ) → compound-lts.Need-same-length-3 (compound-calls t) (compound-at t) compound.Post
+compound-same-length-3 t c =
+    search needs
+
+pub compound-returns-3 : (t : ℕ) → compound-lts.Need-returns-3 (compound-calls t) (compound-at t) compound.Post
+compound-returns-3 t c =
+    goes-as (node-load _ _ _ (sym (c .before .before .before .before .before .before .before .before .before .pre .1 .0) ∙ c .before .before .before .before .if3 .taken)) ((c .before .before .bind .ensures) (c .before .before .before .before .before .before .before .before .before .args .d))
+
+pub compound-conditional-requires : (t : ℕ) → compound-lts.Need-conditional-requires (compound-calls t) (compound-at t) compound.Post
+compound-conditional-requires t c κs =
+    (omega (arith, (c .before .before .before .before .before .before .pre .0)), ((c .before .before .before .before .before .before .pre .1 .0), nine-on (c .before .before .before .before .before .before .pre .1 .1) (c .before .before .before .if1 .left), twelve-off (c .before .before .before .before .before .before .pre .1 .2) (c .before .before .if2 .left) (c .before .if3 .left), (c .before .before .before .before .before .before .pre .1 .3), (c .before .before .before .before .before .before .pre .1 .4), (c .before .before .before .before .before .before .pre .1 .5)))
+
+pub compound-same-length-4 : (t : ℕ) → compound-lts.Need-same-length-4 (compound-calls t) (compound-at t) compound.Post
+compound-same-length-4 t c =
+    search needs
+
+pub compound-returns-4 : (t : ℕ) → compound-lts.Need-returns-4 (compound-calls t) (compound-at t) compound.Post
+compound-returns-4 t c =
+    (c .before .before .conditional .ensures)

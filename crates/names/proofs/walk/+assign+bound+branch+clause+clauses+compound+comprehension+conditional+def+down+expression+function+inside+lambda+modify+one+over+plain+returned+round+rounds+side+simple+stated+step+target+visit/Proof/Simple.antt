@@ -1,0 +1,82 @@
+-- What `simple` leaves. Assumes nothing.
+use borrow.Author.Needs.{needs}
+use Prim.Native.Nat.{ℕ, _+_, _*_, _-_, _<_, _≤_}
+use native.Mathlib.Omega.{arith}
+use mathlib.Core.Path.{_≡_, refl, sym, ap, _∙_}
+use mathlib.Core.List.{List}
+use lib.ListN.{length}
+use Rattle.tree.specs.Bytes.{sizeAt}
+use Rattle.tree.specs.Forest.{Part}
+use Rattle.tree.proofs.Laws.{rest, sized, ended}
+use Rattle.rules.specs.Order.{fails}
+use Rattle.names.specs.State.{Fits}
+use Rattle.names.specs.Walk.{Goes, wantOf, visitOf, clausesOf}
+use Rattle.names.specs.declared.scope.Abort.the-variants.{Loop, Function}
+use Rattle.names.specs.declared.scope.Scope.{Scope}
+use Rattle.names.proofs.Going.{skips, then, goes-as, goes-to, goes-fits, back-fits, enter-fits, stop-to, sides-to, turns-to, scopes-to, leave-asks}
+use Rattle.names.proofs.Parts.{node-of, node-few, node-break, node-continue, node-return, node-expression, node-assign, node-modify, node-statements, node-if, node-if-else, node-for, node-def, node-load, node-identifier, node-lambda, node-list, node-dict, node-statement, node-other, over-there, over-none, bound-there, bound-none, clause-after, nine-on, twelve-off, ten-left}
+use Rattle.names.proofs.Rows.{visit-on, visit-last, clauses-on, clauses-last, kids-as, down-as, kid-as, node-zero, node-more, below-ends, below-node, below-rest, cond-true, cond-false, pick-true, pick-false, return-node, clause-none, clause-there, regroup, loop-once, loop-twice}
+use Rattle.names.proofs.Held.{methods}
+use Rattle.names.proofs.walk.simple.Reads as simple
+use Rattle.names.proofs.walk.+assign+bound+branch+clause+clauses+compound+comprehension+conditional+def+down+expression+function+inside+lambda+modify+one+over+plain+returned+round+rounds+side+simple+stated+step+target+visit.Lts-simple as simple-lts
+use Rattle.names.proofs.walk.+assign+bound+branch+clause+clauses+compound+comprehension+conditional+def+down+expression+function+inside+lambda+modify+one+over+plain+returned+round+rounds+side+simple+stated+step+target+visit.Proof.Base.{simple-at, simple-calls}
+
+pub simple-returned-requires : (t : ℕ) → simple-lts.Need-returned-requires (simple-calls t) (simple-at t) simple.Post
+simple-returned-requires t c κs =
+    (omega (arith, (c .before .before .before .before .pre .0)), ((sym (c .before .before .before .before .pre .1 .0) ∙ c .before .if1 .taken), (c .before .before .before .before .pre .1 .2), (c .before .before .before .before .pre .1 .3)))
+
+pub simple-same-length : (t : ℕ) → simple-lts.Need-same-length (simple-calls t) (simple-at t) simple.Post
+simple-same-length t c =
+    search needs
+
+pub simple-returns : (t : ℕ) → simple-lts.Need-returns (simple-calls t) (simple-at t) simple.Post
+simple-returns t c =
+    (c .before .before .returned .ensures)
+
+pub simple-stated-requires : (t : ℕ) → simple-lts.Need-stated-requires (simple-calls t) (simple-at t) simple.Post
+simple-stated-requires t c κs =
+    (omega (arith, (c .before .before .before .before .before .pre .0)), ((sym (c .before .before .before .before .before .pre .1 .0) ∙ c .before .if2 .taken), (c .before .before .before .before .before .pre .1 .2), (c .before .before .before .before .before .pre .1 .3)))
+
+pub simple-same-length-2 : (t : ℕ) → simple-lts.Need-same-length-2 (simple-calls t) (simple-at t) simple.Post
+simple-same-length-2 t c =
+    search needs
+
+pub simple-returns-2 : (t : ℕ) → simple-lts.Need-returns-2 (simple-calls t) (simple-at t) simple.Post
+simple-returns-2 t c =
+    (c .before .before .stated .ensures)
+
+pub simple-assign-requires : (t : ℕ) → simple-lts.Need-assign-requires (simple-calls t) (simple-at t) simple.Post
+simple-assign-requires t c κs =
+    (omega (arith, (c .before .before .before .before .before .before .pre .0)), ((sym (c .before .before .before .before .before .before .pre .1 .0) ∙ c .before .if3 .taken), (c .before .before .before .before .before .before .pre .1 .2), (c .before .before .before .before .before .before .pre .1 .3)))
+
+pub simple-same-length-3 : (t : ℕ) → simple-lts.Need-same-length-3 (simple-calls t) (simple-at t) simple.Post
+simple-same-length-3 t c =
+    search needs
+
+pub simple-returns-3 : (t : ℕ) → simple-lts.Need-returns-3 (simple-calls t) (simple-at t) simple.Post
+simple-returns-3 t c =
+    (c .before .before .assign .ensures)
+
+pub simple-modify-requires : (t : ℕ) → simple-lts.Need-modify-requires (simple-calls t) (simple-at t) simple.Post
+simple-modify-requires t c κs =
+    (omega (arith, (c .before .before .before .before .before .before .before .pre .0)), ((sym (c .before .before .before .before .before .before .before .pre .1 .0) ∙ c .before .if4 .taken), (c .before .before .before .before .before .before .before .pre .1 .2), (c .before .before .before .before .before .before .before .pre .1 .3)))
+
+pub simple-same-length-4 : (t : ℕ) → simple-lts.Need-same-length-4 (simple-calls t) (simple-at t) simple.Post
+simple-same-length-4 t c =
+    search needs
+
+pub simple-returns-4 : (t : ℕ) → simple-lts.Need-returns-4 (simple-calls t) (simple-at t) simple.Post
+simple-returns-4 t c =
+    (c .before .before .modify .ensures)
+
+pub simple-plain-requires : (t : ℕ) → simple-lts.Need-plain-requires (simple-calls t) (simple-at t) simple.Post
+simple-plain-requires t c κs =
+    (omega (arith, (c .before .before .before .before .before .before .before .pre .0)), ((c .before .before .before .before .before .before .before .pre .1 .0), (c .before .before .before .before .before .before .before .pre .1 .1), c .before .before .before .before .if1 .left, c .before .before .before .if2 .left, c .before .before .if3 .left, c .before .if4 .left, (c .before .before .before .before .before .before .before .pre .1 .2), (c .before .before .before .before .before .before .before .pre .1 .3)))
+
+pub simple-same-length-5 : (t : ℕ) → simple-lts.Need-same-length-5 (simple-calls t) (simple-at t) simple.Post
+simple-same-length-5 t c =
+    search needs
+
+pub simple-returns-5 : (t : ℕ) → simple-lts.Need-returns-5 (simple-calls t) (simple-at t) simple.Post
+simple-returns-5 t c =
+    (c .before .before .plain .ensures)

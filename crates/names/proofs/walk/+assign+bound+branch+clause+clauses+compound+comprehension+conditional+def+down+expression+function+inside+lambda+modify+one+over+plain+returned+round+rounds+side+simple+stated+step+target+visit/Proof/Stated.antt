@@ -1,0 +1,50 @@
+-- What `stated` leaves. Assumes nothing.
+use borrow.Author.Needs.{needs}
+use Prim.Native.Nat.{ℕ, _+_, _*_, _-_, _<_, _≤_}
+use native.Mathlib.Omega.{arith}
+use mathlib.Core.Path.{_≡_, refl, sym, ap, _∙_}
+use mathlib.Core.List.{List}
+use lib.ListN.{length}
+use Rattle.tree.specs.Bytes.{sizeAt}
+use Rattle.tree.specs.Forest.{Part}
+use Rattle.tree.proofs.Laws.{rest, sized, ended}
+use Rattle.rules.specs.Order.{fails}
+use Rattle.names.specs.State.{Fits}
+use Rattle.names.specs.Walk.{Goes, wantOf, visitOf, clausesOf}
+use Rattle.names.specs.declared.scope.Abort.the-variants.{Loop, Function}
+use Rattle.names.specs.declared.scope.Scope.{Scope}
+use Rattle.names.proofs.Going.{skips, then, goes-as, goes-to, goes-fits, back-fits, enter-fits, stop-to, sides-to, turns-to, scopes-to, leave-asks}
+use Rattle.names.proofs.Parts.{node-of, node-few, node-break, node-continue, node-return, node-expression, node-assign, node-modify, node-statements, node-if, node-if-else, node-for, node-def, node-load, node-identifier, node-lambda, node-list, node-dict, node-statement, node-other, over-there, over-none, bound-there, bound-none, clause-after, nine-on, twelve-off, ten-left}
+use Rattle.names.proofs.Rows.{visit-on, visit-last, clauses-on, clauses-last, kids-as, down-as, kid-as, node-zero, node-more, below-ends, below-node, below-rest, cond-true, cond-false, pick-true, pick-false, return-node, clause-none, clause-there, regroup, loop-once, loop-twice}
+use Rattle.names.proofs.Held.{methods}
+use Rattle.names.proofs.walk.stated.Reads as stated
+use Rattle.names.proofs.walk.+assign+bound+branch+clause+clauses+compound+comprehension+conditional+def+down+expression+function+inside+lambda+modify+one+over+plain+returned+round+rounds+side+simple+stated+step+target+visit.Lts-stated as stated-lts
+use Rattle.names.proofs.walk.+assign+bound+branch+clause+clauses+compound+comprehension+conditional+def+down+expression+function+inside+lambda+modify+one+over+plain+returned+round+rounds+side+simple+stated+step+target+visit.Proof.Base.{stated-at, stated-calls}
+
+pub stated-down-requires : (t : ℕ) → stated-lts.Need-down-requires (stated-calls t) (stated-at t) stated.Post
+stated-down-requires t c κs =
+    (omega (arith, (c .before .before .before .pre .0)), ((c .before .before .before .pre .1 .1), (c .before .before .before .pre .1 .2)))
+
+pub stated-fail-called-requires : (t : ℕ) → stated-lts.Need-fail-called-requires (stated-calls t) (stated-at t) stated.Post
+stated-fail-called-requires t c κs =
+    node-zero (c .before .before .before .before .before .before .pre .1 .1)
+
+pub stated-stop-requires : (t : ℕ) → stated-lts.Need-stop-requires (stated-calls t) (stated-at t) stated.Post
+stated-stop-requires t c κs =
+    search needs
+
+pub stated-same-length : (t : ℕ) → stated-lts.Need-same-length (stated-calls t) (stated-at t) stated.Post
+stated-same-length t c =
+    search needs
+
+pub stated-returns : (t : ℕ) → stated-lts.Need-returns (stated-calls t) (stated-at t) stated.Post
+stated-returns t c =
+    goes-as (node-expression _ _ _ (c .before .before .before .before .before .before .before .before .before .pre .1 .0)) (then (c .before .before .before .before .before .down .ensures) (cond-true _ (sym (c .before .before .fail-called .ensures) ∙ c .before .if1 .taken) _ _ (stop-to fails Function refl (c .stop .ensures) (goes-fits (c .before .before .before .before .before .down .ensures)))))
+
+pub stated-same-length-2 : (t : ℕ) → stated-lts.Need-same-length-2 (stated-calls t) (stated-at t) stated.Post
+stated-same-length-2 t c =
+    search needs
+
+pub stated-returns-2 : (t : ℕ) → stated-lts.Need-returns-2 (stated-calls t) (stated-at t) stated.Post
+stated-returns-2 t c =
+    goes-as (node-expression _ _ _ (c .before .before .before .before .before .before .before .before .pre .1 .0)) (then (c .before .before .before .before .down .ensures) (cond-false _ (sym (c .before .fail-called .ensures) ∙ c .if1 .left) _ _ (skips (goes-fits (c .before .before .before .before .down .ensures)))))

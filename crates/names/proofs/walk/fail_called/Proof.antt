@@ -1,0 +1,94 @@
+-- `fail_called` meets its contract. Assumes nothing.
+use Prim.Native.Nat.{ℕ, _+_, _*_, _-_, _<_, _≤_}
+use borrow.Author.Needs.{needs}
+use borrow.Author.Tests.{eq-eqb, ne-eqb}
+use native.Mathlib.Omega.{arith}
+use mathlib.Core.Path.{_≡_, refl, sym, ap, _∙_}
+use mathlib.Core.List.{List}
+use lib.ListN.{length}
+use Rattle.tree.specs.Bytes.{sizeAt, roleAt}
+use Rattle.tree.specs.Forest.{forestOf, Part}
+use Rattle.tree.proofs.Laws.{rest, sized, ended}
+use Rattle.rules.specs.Order.{fail-named, fail-called}
+use Rattle.names.specs.State.{Fits}
+use Rattle.names.specs.Walk.{Goes, named-by, callOf, failOf, bindsIn, bindOf, usesIn, useOf}
+use Rattle.names.specs.declared.scope.Scope.{Scope}
+use Rattle.names.proofs.Going.{skips, then, goes-as, goes-to, goes-fits}
+use Rattle.names.proofs.Parts.{node-of, node-few, bind-several, bind-name, bind-other, use-several, use-name, use-other}
+use Rattle.names.proofs.Rows.{binds-on, binds-last, uses-on, uses-last, kids-as, bind-as, use-as, node-zero, pick-true, pick-false, names-first, names-second, names-last, wanted-every, wanted-role, named-role, named-kind, named-value, calls-role, calls-kind, calls-so, named-hit, named-miss, named-out, called-hit, called-miss, called-out, call-start, fail-start, name-so}
+use Rattle.names.proofs.Held.{methods}
+use Rattle.names.proofs.walk.fail_called.Statement.{statement}
+use Rattle.names.proofs.walk.fail_called.Tie as tie
+use Rattle.names.proofs.walk.fail_called.Reads as reads
+use Rattle.names.proofs.walk.fail_called.Lts as lts
+use Rattle.names.proofs.walk.calls_fail.Reads as calls-fail-reads
+use Rattle.tree.proofs.bytes.size_at.Reads as size-at-reads
+
+abbrev Inv-loop : tie.InvT-loop
+Inv-loop t c f e i₀ i =
+    (c < i) × (e ≡ c + sizeAt t c) × Part t i e × (fail-called (named-by f) (forestOf t i e) ≡ failOf t f c)
+
+abbrev μ-loop : tie.MeasureT-loop
+μ-loop t c f e i₀ i = e - i
+
+size-at-requires : tie.Need-size-at-requires Inv-loop μ-loop
+size-at-requires c κs =
+    search needs
+
+add-e : tie.Need-add-e Inv-loop μ-loop
+add-e c =
+    omega (arith, (c .size-at .ensures .0), node-few (c .before .before .pre), c .before .before .pre .part .few)
+
+add-i : tie.Need-add-i Inv-loop μ-loop
+add-i c =
+    omega (arith, node-few (c .before .before .pre))
+
+loop-holds : tie.Need-loop-holds Inv-loop μ-loop
+loop-holds c =
+    (omega arith, ap (λ (z : ℕ). (c .before .before .args .c) + z) (c .size-at .ensures .0), kids-as (c .before .before .args .t .now) (c .before .before .args .c) _ (c .size-at .ensures .0) (c .before .before .pre), fail-start (c .before .before .args .t .now) (c .before .before .args .f) (c .before .before .args .c) _ (c .size-at .ensures .0))
+
+calls-fail-requires : tie.Need-calls-fail-requires Inv-loop μ-loop
+calls-fail-requires c κs =
+    node-of ((c .before .loop .inv) .2) (c .loop-test .taken) (omega arith)
+
+returns : tie.Need-returns Inv-loop μ-loop
+returns c =
+    called-hit (c .before .before .before .before .before .before .args .t .now) (c .before .before .before .before .before .before .args .f) ((c .before .before .before .loop .inv) .2) (c .before .before .loop-test .taken) (sym (c .before .calls-fail .ensures) ∙ c .if1 .taken) ((c .before .before .before .loop .inv) .3)
+
+size-at-requires-2 : tie.Need-size-at-requires-2 Inv-loop μ-loop
+size-at-requires-2 c κs =
+    search needs
+
+add-i-2 : tie.Need-add-i-2 Inv-loop μ-loop
+add-i-2 c =
+    omega (arith, (c .size-at2 .ensures .0), ended ((c .before .before .before .before .loop .inv) .2) (c .before .before .before .loop-test .taken), (c .before .before .before .before .loop .inv) .2 .few)
+
+loop-less : tie.Need-loop-less Inv-loop μ-loop
+loop-less c =
+    omega (arith, (c .size-at2 .ensures .0), ended ((c .before .before .before .before .loop .inv) .2) (c .before .before .before .loop-test .taken), sized ((c .before .before .before .before .loop .inv) .2) (c .before .before .before .loop-test .taken), (c .before .before .before .loop-test .taken))
+
+loop-again : tie.Need-loop-again Inv-loop μ-loop
+loop-again c =
+    rw (c .size-at2 .ensures .0) (omega (arith, (c .before .before .before .before .loop .inv) .0), (c .before .before .before .before .loop .inv) .1, rest ((c .before .before .before .before .loop .inv) .2) (c .before .before .before .loop-test .taken), called-miss (c .before .before .before .before .before .before .before .args .t .now) (c .before .before .before .before .before .before .before .args .f) ((c .before .before .before .before .loop .inv) .2) (c .before .before .before .loop-test .taken) (sym (c .before .before .calls-fail .ensures) ∙ c .before .if1 .left) ((c .before .before .before .before .loop .inv) .3))
+
+returns-2 : tie.Need-returns-2 Inv-loop μ-loop
+returns-2 c =
+    called-out (c .before .before .before .before .args .t .now) (c .before .before .before .before .args .f) (c .loop-test .left) ((c .before .loop .inv) .3)
+
+pub fail-called-spec : {M : Type 1} → statement M
+fail-called-spec =
+    tie.close
+    (tie.spec
+    Inv-loop
+    μ-loop
+    size-at-requires
+    add-e
+    add-i
+    loop-holds
+    calls-fail-requires
+    returns
+    size-at-requires-2
+    add-i-2
+    loop-less
+    loop-again
+    returns-2)

@@ -1,0 +1,6 @@
+-- What the contracts of names cite.
+pub mod Lists
+pub mod State
+pub mod Words
+pub mod Does
+pub mod Walk
