@@ -1,11 +1,11 @@
 -- Two tests for the name fail that agree on the values of a tree have the pass do the same. Assumes nothing.
 use Prim.{Unit, tt}
-use Prim.Native.Nat.{ℕ, _+_, _≤_, _<_}
-use mathlib.Core.Path.{_≡_, refl, sym, ap, ap₂, _∙_, fun-ext}
+use Prim.Native.Nat.{ℕ}
+use mathlib.Core.Path.{_≡_, refl, ap, ap₂, fun-ext}
 use mathlib.Core.Bool.{Bool, cond, _&&_, _||_}
 use mathlib.Core.List.{List}
 use lib.Dec.{eqb}
-use Rattle.tree.specs.Bytes.{sizeAt, valueAt}
+use Rattle.tree.specs.Bytes.{valueAt}
 use Rattle.tree.specs.Forest.{Head, Forest, none, node, spotAt, headAt, forestOf, Part}
 use Rattle.tree.proofs.Laws.{forest-none, forest-node, induct}
 use Rattle.rules.specs.Order.{Cmd, skip, _⨟_, stop, fails, Form, picked, part, form-of, step, takes, fail-named, fail-called, Want, of-role, every, first-over, first-bound, clauses}

@@ -1,17 +1,16 @@
 -- How the parts of the walk go together: a law for each command. Assumes nothing.
-use Prim.Native.Nat.{ℕ, suc, _+_, _≤_, _<_}
+use Prim.Native.Nat.{ℕ, suc, _≤_}
 use native.Mathlib.Omega.{arith}
 use mathlib.Core.Path.{_≡_, refl, sym, ap, ap₂, _∙_}
 use mathlib.Core.Bool.{Bool, true, false}
-use mathlib.Core.List.{List, [], _∷_}
-use lib.Dec.{eqb, leb}
-use lib.ListN.{length, getD}
+use mathlib.Core.List.{List, _∷_}
+use lib.Dec.{leb}
 use Rattle.tree.specs.Bytes.{pick}
 use Rattle.tree.specs.Table.{tableOf, underscored}
 use Rattle.rules.specs.Names.{Abort, abort-of, unloop}
 use Rattle.rules.specs.Order.{Cmd, Stop, skip, _⨟_, use-of, set-of, stop, branch, loop, scope, picked}
-use Rattle.rules.specs.Marks.{House, Room, tour, Every, Every-round, Every-rounds, mid, enter-house, leave-house, stop-room, branch-house, same-house, round-house, rounds-house}
-use Rattle.names.specs.State.{abortOf, no-entry, baseIn, roomOf, roomsOf, outOf, houseOf, Fits, Inside, Kept}
+use Rattle.rules.specs.Marks.{House, tour, Every, Every-rounds, mid, enter-house, leave-house, stop-room, round-house, rounds-house}
+use Rattle.names.specs.State.{abortOf, roomOf, roomsOf, outOf, houseOf, Fits, Inside, Kept}
 use Rattle.names.specs.Words.{with-abort, unloopOf, backScope, mergedScope, joinScope, enterScope, leaveWords, leaveScope}
 use Rattle.names.specs.Does.{Room-for, Does}
 use Rattle.names.specs.Walk.{Goes, Turns}
@@ -83,8 +82,8 @@ module _ {t : List ℕ} {d : ℕ} where
           fits = h .does .fits;
           kept = kept-on (g .does .kept) (h .does .kept);
           house = λ outer i p.
-            let e = g .does .house outer i (p .0) in
-            h .does .house outer (inside-kept outer (g .does .fits .words) (g .does .kept) i) (rw e (p .1)) ∙ ap (tour (underscored (tableOf t)) d b) e;
+              let e = g .does .house outer i (p .0) in
+              h .does .house outer (inside-kept outer (g .does .fits .words) (g .does .kept) i) (rw e (p .1)) ∙ ap (tour (underscored (tableOf t)) d b) e;
         };
       }
 
@@ -96,8 +95,8 @@ module _ {t : List ℕ} {d : ℕ} where
           fits = h .does .fits;
           kept = kept-on (g .does .kept) (h .does .kept);
           house = λ outer i p.
-            let e = g .does .house outer i (every-now (underscored (tableOf t)) Room-for b d (houseOf t w s outer) p) in
-            h .does .house outer (inside-kept outer (g .does .fits .words) (g .does .kept) i) (rw e p) ∙ ap (tour (underscored (tableOf t)) d b) e;
+              let e = g .does .house outer i (every-now (underscored (tableOf t)) Room-for b d (houseOf t w s outer) p) in
+              h .does .house outer (inside-kept outer (g .does .fits .words) (g .does .kept) i) (rw e p) ∙ ap (tour (underscored (tableOf t)) d b) e;
         };
       }
 
@@ -250,12 +249,12 @@ module _ {t : List ℕ} (ms : Methods t) {d : ℕ} where
           fits = ms .join-fits one two (h .does .fits);
           kept = kept-join ms one (kept-back (g .does .kept)) (h .does .kept);
           house = λ outer i p.
-            let e = g .does .house outer i (p .0) in
-            let q : houseOf t v (backScope s one) outer ≡ mid (houseOf t w s outer) (tour (underscored (tableOf t)) d a (houseOf t w s outer))
-                  = ms .back f (g .does .fits) (g .does .kept) outer ∙ ap (mid (houseOf t w s outer)) e in
-            let e₂ = h .does .house outer (inside-kept outer (g .does .fits .words) (kept-back (g .does .kept)) i) (rw q (p .1)) in
-            ms .join (g .does .fits) (h .does .fits) (h .does .kept .first ∙ same-back v s one .0) (omega (arith, h .does .kept .settings, same-back v s one .1)) outer
-            ∙ ap₂ both e (e₂ ∙ ap (tour (underscored (tableOf t)) d b) q);
+              let e = g .does .house outer i (p .0) in
+              let q : houseOf t v (backScope s one) outer ≡ mid (houseOf t w s outer) (tour (underscored (tableOf t)) d a (houseOf t w s outer))
+              = ms .back f (g .does .fits) (g .does .kept) outer ∙ ap (mid (houseOf t w s outer)) e in
+              let e₂ = h .does .house outer (inside-kept outer (g .does .fits .words) (kept-back (g .does .kept)) i) (rw q (p .1)) in
+              ms .join (g .does .fits) (h .does .fits) (h .does .kept .first ∙ same-back v s one .0) (omega (arith, h .does .kept .settings, same-back v s one .1)) outer
+              ∙ ap₂ both e (e₂ ∙ ap (tour (underscored (tableOf t)) d b) q);
         };
       }
 
@@ -268,14 +267,14 @@ module _ {t : List ℕ} (ms : Methods t) {d : ℕ} where
           fits = fits-abort (unloopOf (joinScope one (backScope s one) .abort)) (ms .join-fits one (backScope s one) fb);
           kept = kept-abort (unloopOf (joinScope one (backScope s one) .abort)) kj;
           house = λ outer i p.
-            let e = g .does .house outer i (p .0) in
-            let q : houseOf t v (backScope s one) outer ≡ mid (houseOf t w s outer) (tour (underscored (tableOf t)) d c (houseOf t w s outer))
-                  = ms .back f (g .does .fits) (g .does .kept) outer ∙ ap (mid (houseOf t w s outer)) e in
-            let j = ms .join (g .does .fits) fb (same-back v s one .0) (same-back v s one .1) outer ∙ ap₂ both e q in
-            house-abort t v (unloopOf (joinScope one (backScope s one) .abort)) (joinScope one (backScope s one)) outer
-            ∙ ap (λ (z : Abort). record { here = stop-room z (houseOf t v (joinScope one (backScope s one)) outer .here); above = houseOf t v (joinScope one (backScope s one)) outer .above; out = houseOf t v (joinScope one (backScope s one)) outer .out })
-                (unloop-same (joinScope one (backScope s one) .abort) ∙ ap unloop (sym (here-abort t v (joinScope one (backScope s one)) outer)))
-            ∙ ap unlooped j;
+              let e = g .does .house outer i (p .0) in
+              let q : houseOf t v (backScope s one) outer ≡ mid (houseOf t w s outer) (tour (underscored (tableOf t)) d c (houseOf t w s outer))
+              = ms .back f (g .does .fits) (g .does .kept) outer ∙ ap (mid (houseOf t w s outer)) e in
+              let j = ms .join (g .does .fits) fb (same-back v s one .0) (same-back v s one .1) outer ∙ ap₂ both e q in
+              house-abort t v (unloopOf (joinScope one (backScope s one) .abort)) (joinScope one (backScope s one)) outer
+              ∙ ap (λ (z : Abort). record { here = stop-room z (houseOf t v (joinScope one (backScope s one)) outer .here); above = houseOf t v (joinScope one (backScope s one)) outer .above; out = houseOf t v (joinScope one (backScope s one)) outer .out })
+              (unloop-same (joinScope one (backScope s one) .abort) ∙ ap unloop (sym (here-abort t v (joinScope one (backScope s one)) outer)))
+              ∙ ap unlooped j;
         };
       }
 
@@ -287,12 +286,12 @@ module _ {t : List ℕ} (ms : Methods t) {d : ℕ} where
           fits = ms .leave-fits f (g .does .fits) (g .does .kept);
           kept = ms .leave-kept f (g .does .fits) (g .does .kept);
           house = λ outer i p.
-            let u = underscored (tableOf t) in
-            let q = house-enter t w s outer in
-            let e : houseOf t v b (s ∷ outer) ≡ tour u d c (enter-house (houseOf t w s outer))
-                  = g .does .house (s ∷ outer) (inside-enter outer f i) (rw q (p .1)) ∙ ap (tour u d c) q in
-            ms .leave f (g .does .fits) (g .does .kept) outer i (rw e (every-end u Room-for c d (enter-house (houseOf t w s outer)) (p .1))) (rw e (p .2))
-            ∙ ap (λ (z : House). leave-house u z (z .above)) e;
+              let u = underscored (tableOf t) in
+              let q = house-enter t w s outer in
+              let e : houseOf t v b (s ∷ outer) ≡ tour u d c (enter-house (houseOf t w s outer))
+              = g .does .house (s ∷ outer) (inside-enter outer f i) (rw q (p .1)) ∙ ap (tour u d c) q in
+              ms .leave f (g .does .fits) (g .does .kept) outer i (rw e (every-end u Room-for c d (enter-house (houseOf t w s outer)) (p .1))) (rw e (p .2))
+              ∙ ap (λ (z : House). leave-house u z (z .above)) e;
         };
       }
 
@@ -305,8 +304,8 @@ module _ {t : List ℕ} {d : ℕ} {c : Cmd} where
         fits = h .does .fits;
         kept = kept-on (g .does .kept) (h .does .kept);
         house = λ outer i p.
-          let y = g .does .house outer i (p .0) in
-          h .does .house outer (inside-kept outer (g .does .fits .words) (g .does .kept) i) (rw y (p .1)) ∙ ap (round-house (tour (underscored (tableOf t)) (suc d) c)) y;
+            let y = g .does .house outer i (p .0) in
+            h .does .house outer (inside-kept outer (g .does .fits .words) (g .does .kept) i) (rw y (p .1)) ∙ ap (round-house (tour (underscored (tableOf t)) (suc d) c)) y;
       })
 
   pub loops-twice : leb (suc d) 5 ≡ true → {w v x : List ℕ} {s q r : Scope} → Turns t (suc d) c w s v q → Turns t (suc d) c v q x r → Goes t d (loop c) w s x r

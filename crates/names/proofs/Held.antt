@@ -1,14 +1,13 @@
 -- The methods do what the walk needs. Assumes nothing.
 use Prim.Native.Nat.{ℕ, _≤_, _<_}
 use native.Mathlib.Omega.{arith}
-use mathlib.Core.Path.{_≡_, refl, sym, ap, _∙_}
+use mathlib.Core.Path.{_≡_}
 use mathlib.Core.List.{List, [], _∷_}
 use lib.ListN.{length}
 use Rattle.rules.specs.Marks.{House}
-use Rattle.names.specs.State.{baseIn, roomOf, roomsOf, outOf, houseOf, Fits, Inside, Kept}
-use Rattle.names.specs.Words.{enterScope, leaveWords, leaveScope, closedOf}
+use Rattle.names.specs.State.{baseIn, roomOf, roomsOf, outOf, houseOf, Fits, Kept}
+use Rattle.names.specs.Words.{enterScope, closedOf}
 use Rattle.names.specs.Does.{Does, Room-for}
-use Rattle.names.specs.Walk.{Goes}
 use Rattle.names.specs.declared.scope.Scope.{Scope}
 use Rattle.names.proofs.Kept.{fits-over, inside-over}
 use Rattle.names.proofs.Methods.{Methods, closing}
@@ -58,6 +57,6 @@ methods t =
       leave-fits = λ {w} {v} {s} {b} f g k. passing.leave-fits t v b s g (outside f g k) (loose f g k);
       leave-kept = λ {w} {v} {s} {b} f g k. passing.leave-kept t v b s g (outside f g k) (loose f g k) w (bases f g k);
       leave = λ {w} {v} {s} {b} f g k outer i p q.
-        passing.leave-house-is t v b s g (outside f g k) (loose f g k) outer (inside-over outer w v s (g .words) (bases f g k) i) (left-out t v b s outer q);
+          passing.leave-house-is t v b s g (outside f g k) (loose f g k) outer (inside-over outer w v s (g .words) (bases f g k) i) (left-out t v b s outer q);
       closed = λ {w} {s} f i p few. closes t w s f few;
     }

@@ -1,10 +1,10 @@
 -- A state that goes on in the same scope stands inside the same scopes. Assumes nothing.
 use Prim.Native.Nat.{ℕ, _≤_, _<_}
 use native.Mathlib.Omega.{arith}
-use mathlib.Core.Path.{_≡_, refl, sym, _∙_}
+use mathlib.Core.Path.{_≡_, refl, _∙_}
 use mathlib.Core.List.{List, [], _∷_}
-use lib.ListN.{length, getD}
-use Rattle.names.specs.State.{no-entry, baseIn, Fits, Inside, Kept}
+use lib.ListN.{length}
+use Rattle.names.specs.State.{baseIn, Fits, Inside, Kept}
 use Rattle.names.specs.declared.scope.Scope.{Scope}
 
 pub kept-same : (w : List ℕ) (s : Scope) → Kept w s w s
@@ -56,25 +56,23 @@ pub inside-over : (outer : List Scope) (w v : List ℕ) (o : Scope) → 32768 �
     → Inside w o outer → Inside v o outer
 unfolding Inside
 inside-over [] w v o l same i = i
-inside-over (p ∷ outer) w v o l same i =
-    (
-      i .0,
-      i .1,
-      i .2,
-      i .3,
-      fits-over l (λ k h. same k (rw (i .0) h)) (i .4),
-      inside-over outer w v p l (λ k h. same k (omega (arith, i .0, i .4 .first))) (i .5)
-    )
+inside-over (p ∷ outer) w v o l same i = (
+  i .0,
+  i .1,
+  i .2,
+  i .3,
+  fits-over l (λ k h. same k (rw (i .0) h)) (i .4),
+  inside-over outer w v p l (λ k h. same k (omega (arith, i .0, i .4 .first))) (i .5),
+)
 
 pub inside-kept : (outer : List Scope) {w v : List ℕ} {s r : Scope} → 32768 ≤ length v → Kept w s v r → Inside w s outer → Inside v r outer
 unfolding Inside
 inside-kept [] l k i = (k .first ∙ i .0, k .cant ∙ i .1, k .loose ∙ i .2)
-inside-kept (p ∷ outer) {w} {v} l k i =
-    (
-      k .first ∙ i .0,
-      k .cant ∙ i .1,
-      k .loose ∙ i .2,
-      λ j h. k .entries j (rw (i .0) h) ∙ i .3 j h,
-      fits-over l (λ j h. k .bases j (rw (i .0) h)) (i .4),
-      inside-over outer w v p l (λ j h. k .bases j (omega (arith, i .0, i .4 .first))) (i .5)
-    )
+inside-kept (p ∷ outer) {w} {v} l k i = (
+  k .first ∙ i .0,
+  k .cant ∙ i .1,
+  k .loose ∙ i .2,
+  λ j h. k .entries j (rw (i .0) h) ∙ i .3 j h,
+  fits-over l (λ j h. k .bases j (rw (i .0) h)) (i .4),
+  inside-over outer w v p l (λ j h. k .bases j (omega (arith, i .0, i .4 .first))) (i .5),
+)

@@ -23,3 +23,4 @@ pub mod Sides
 pub mod Held
 pub mod Starts
 pub mod Fails
+pub mod Whole

@@ -1,22 +1,22 @@
 -- What the walk does for a node, kind by kind, and for a node and its later siblings. Assumes nothing.
 use Prim.{Unit, tt}
-use Prim.Native.Nat.{ℕ, suc, _+_, _≤_, _<_}
+use Prim.Native.Nat.{ℕ, _+_, _≤_, _<_}
 use native.Mathlib.Omega.{arith}
 use native.Mathlib.Decide.{ℕ-discrete}
 use mathlib.Core.Path.{_≡_, refl, sym, ap, _∙_}
-use mathlib.Core.Bool.{Bool, true, false, cond, _||_}
+use mathlib.Core.Bool.{Bool, true, false, cond}
 use mathlib.Core.List.{List, [], _∷_}
 use lib.Dec.{eqb}
-use borrow.Author.Tests.{eq-eqb, ne-eqb}
-use Rattle.tree.specs.Bytes.{pick, kindAt, roleAt, sizeAt}
-use Rattle.tree.specs.Forest.{Head, Forest, none, node, spotAt, headAt, forestOf, Part}
+use borrow.Author.Tests.{ne-eqb}
+use Rattle.tree.specs.Bytes.{kindAt, roleAt, sizeAt}
+use Rattle.tree.specs.Forest.{spotAt, headAt, forestOf, Part}
 use Rattle.tree.specs.Find.{childOf, kidOf}
-use Rattle.tree.proofs.Laws.{forest-none, forest-node, kids, first, rest, sized, ended, later}
-use Rattle.tree.proofs.Find.{child-end, child-here, child-next, child-ge, child-le, child-part}
+use Rattle.tree.proofs.Laws.{forest-none, forest-node, kids, first, sized, later}
+use Rattle.tree.proofs.Find.{child-end, child-here, child-next, child-ge}
 use Rattle.tree.proofs.Find as find
-use Rattle.rules.specs.Order.{Cmd, skip, _⨟_, use-of, set-of, stop, branch, loop, scope, breaks, bare, valued, fails, Form, forms, look, broken-by, has, Sort, Bind, bindings, bind-part, bind-of, binds, use-part, uses, part, form-of, picked, step, takes, fail-called, Want, of-role, every, first-over, first-bound, clauses}
+use Rattle.rules.specs.Order.{skip, _⨟_, use-of, set-of, stop, branch, loop, scope, breaks, bare, valued, fails, Form, forms, look, broken-by, has, Sort, Bind, bindings, bind-part, binds, use-part, uses, part, picked, step, takes, Want, first-over, first-bound, clauses}
 use Rattle.names.specs.State.{sortOf}
-use Rattle.names.specs.Walk.{named-by, kidsOf, wantOf, wantedOf, namesOf, visitOf, downOf, nodeOf, bindNode, useNode, bindsIn, bindOf, usesIn, useOf, Node, clausesOf, clauseOf, overOf, boundOf, namedOf, callOf, callsFail, failOf}
+use Rattle.names.specs.Walk.{named-by, kidsOf, wantOf, wantedOf, namesOf, visitOf, downOf, nodeOf, bindNode, useNode, bindsIn, bindOf, usesIn, useOf, Node, clausesOf, overOf, boundOf, failOf}
 
 -- the parts of a node
 pub kids-of : {t : List ℕ} {c d : ℕ} → Node t c d → Part t (c + 1) (c + sizeAt t c)
@@ -258,13 +258,13 @@ module _ (t : List ℕ) (f c : ℕ) where
   unfolding wantOf
   node-statement k q h a b d e g i =
       node-form Form.plain (ap (λ (z : ℕ). look z forms Form.plain) q ∙ look-plain k a b d e g i (λ z. omega arith) (λ z. omega arith) (λ z. omega arith) (λ z. omega arith)
-        (λ z. omega arith) (λ z. omega arith) (λ z. omega arith) (λ z. omega arith) (λ z. omega arith) (λ z. omega arith))
+      (λ z. omega arith) (λ z. omega arith) (λ z. omega arith) (λ z. omega arith) (λ z. omega arith) (λ z. omega arith))
 
   pub node-other : (k : ℕ) → kindAt t c ≡ k → 14 ≤ k → (k ≡ 20 → ⊥) → (k ≡ 24 → ⊥) → (k ≡ 25 → ⊥) → (k ≡ 26 → ⊥) → nodeOf t f c ≡ downOf t f (wantOf 9) c
   unfolding wantOf
   node-other k q h a b d e =
       node-form Form.plain (ap (λ (z : ℕ). look z forms Form.plain) q ∙ look-plain k (λ z. omega arith) (λ z. omega arith) (λ z. omega arith) (λ z. omega arith)
-        (λ z. omega arith) (λ z. omega arith) (λ z. omega arith) (λ z. omega arith) (λ z. omega arith) (λ z. omega arith) (λ z. omega arith) (λ z. omega arith) a b d e)
+      (λ z. omega arith) (λ z. omega arith) (λ z. omega arith) (λ z. omega arith) (λ z. omega arith) (λ z. omega arith) (λ z. omega arith) (λ z. omega arith) a b d e)
 
 -- a comprehension's clauses
 module _ (t : List ℕ) (f : ℕ) where

@@ -4,7 +4,7 @@ use native.Mathlib.Omega.{arith}
 use native.Mathlib.Decide.{ℕ-discrete}
 use mathlib.Core.Path.{_≡_, refl, sym, ap, ap₂, _∙_}
 use mathlib.Core.Bool.{Bool, true, false, _||_}
-use mathlib.Core.List.{List, [], _∷_}
+use mathlib.Core.List.{List, _∷_}
 use lib.ListN.{length, getD, set, length-set}
 use lib.Seq.{getD-set-same, getD-set-other}
 use Rattle.rules.specs.Names as rules
@@ -12,7 +12,7 @@ use Rattle.rules.specs.Marks as marks
 use Rattle.rules.specs.Marks.{mid, notes, restore, merge, join-level}
 use Rattle.names.specs.Lists.{placesIn, places}
 use Rattle.names.specs.State.{abortOf, levelOf, no-entry, entryIn, roomOf, roomsOf, outOf, houseOf, Fits, Kept}
-use Rattle.names.specs.Words.{presentOf, sureOf, abortsOf, smallerOf, standingIf, joinStanding, joinedOf, mergesIn, mergedScope, joinScope, backScope, with-abort, with-entries}
+use Rattle.names.specs.Words.{presentOf, sureOf, abortsOf, smallerOf, standingIf, joinStanding, joinedOf, mergesIn, mergedScope, joinScope, backScope}
 use Rattle.names.specs.declared.scope.Abort.{Abort}
 use Rattle.names.specs.declared.scope.Abort.the-variants.{Runs, Loop, Function}
 use Rattle.names.specs.declared.scope.Standing.{Standing}
@@ -48,16 +48,16 @@ unfolding houseOf roomOf backScope
 back-house t {w} {v} {s} {one} f g k outer =
     ap
     (λ (l : List marks.Entry).
-      record {
-        here = record {
-          cant = roomOf t v one .cant;
-          unbound = roomOf t v one .unbound;
-          entries = l;
-          abort = abortOf (s .abort);
-        };
-        above = roomsOf t v outer;
-        out = outOf t v (one .warnings);
-      })
+    record {
+      here = record {
+        cant = roomOf t v one .cant;
+        unbound = roomOf t v one .unbound;
+        entries = l;
+        abort = abortOf (s .abort);
+      };
+      above = roomsOf t v outer;
+      out = outOf t v (one .warnings);
+    })
     (sym (back-entries t w v (s .entries) (one .entries) (s .first) (s .settings) (one .settings) (one .first) (k .first) (f .first) (k .settings) (f .clean)))
 
 -- join: each place of the scope, and no other
@@ -86,7 +86,7 @@ module _ (a b : Bool) (os : List Entry) where
     where
       go : Dec (k ≡ j)
           → ((k ≡ j → ⊥) → getD (mergesIn a b os (set es j (joinedOf a b (getD os j no-entry) (getD es j no-entry))) (j + 1) n) k no-entry
-            ≡ joinedOf a b (getD os k no-entry) (getD (set es j (joinedOf a b (getD os j no-entry) (getD es j no-entry))) k no-entry))
+          ≡ joinedOf a b (getD os k no-entry) (getD (set es j (joinedOf a b (getD os j no-entry) (getD es j no-entry))) k no-entry))
           → getD (mergesIn a b os (set es j (joinedOf a b (getD os j no-entry) (getD es j no-entry))) (j + 1) n) k no-entry
           ≡ joinedOf a b (getD os k no-entry) (getD es k no-entry)
       go (yes q) f = merges-before n (j + 1) (set es j (joinedOf a b (getD os j no-entry) (getD es j no-entry))) k (omega arith)
@@ -179,20 +179,20 @@ unfolding houseOf roomOf joinScope mergedScope places
 join-house t {v} {x} {one} {two} f g q h outer =
     ap₂
     (λ (l : List marks.Entry) (a : rules.Abort).
-      record {
-        here = record {
-          cant = roomOf t x two .cant;
-          unbound = roomOf t x two .unbound;
-          entries = l;
-          abort = a;
-        };
-        above = roomsOf t x outer;
-        out = outOf t x (two .warnings);
-      })
+    record {
+      here = record {
+        cant = roomOf t x two .cant;
+        unbound = roomOf t x two .unbound;
+        entries = l;
+        abort = a;
+      };
+      above = roomsOf t x outer;
+      out = outOf t x (two .warnings);
+    })
     (sym
-      (rw (sym q)
-        (merges t v x (one .abort) (two .abort) (one .entries) (two .entries)
-          (mergesIn (abortsOf (one .abort)) (abortsOf (two .abort)) (one .entries) (two .entries) (two .first) (two .settings - two .first))
-          (two .settings - two .first) (one .settings - two .first) (two .first) (omega arith) (λ k i. f .clean k (omega (arith, f .first)))
-          (λ k i l. merges-at (abortsOf (one .abort)) (abortsOf (two .abort)) (one .entries) (two .settings - two .first) (two .first) (two .entries) k i l (omega (arith, g .wide, g .first, g .settings))))))
+    (rw (sym q)
+    (merges t v x (one .abort) (two .abort) (one .entries) (two .entries)
+    (mergesIn (abortsOf (one .abort)) (abortsOf (two .abort)) (one .entries) (two .entries) (two .first) (two .settings - two .first))
+    (two .settings - two .first) (one .settings - two .first) (two .first) (omega arith) (λ k i. f .clean k (omega (arith, f .first)))
+    (λ k i l. merges-at (abortsOf (one .abort)) (abortsOf (two .abort)) (one .entries) (two .settings - two .first) (two .first) (two .entries) k i l (omega (arith, g .wide, g .first, g .settings))))))
     (smaller-same (one .abort) (two .abort))

@@ -1,8 +1,8 @@
 -- From an empty scope through the whole tree: the warnings that stand in the words. Assumes nothing.
-use Prim.Native.Nat.{ℕ, zero, suc, _+_, _≤_, _<_}
+use Prim.Native.Nat.{ℕ, zero, suc, _≤_}
 use native.Mathlib.Omega.{arith}
-use mathlib.Core.Path.{_≡_, refl, sym, ap, _∙_}
-use mathlib.Core.List.{List, [], _∷_}
+use mathlib.Core.Path.{_≡_, refl, ap, _∙_}
+use mathlib.Core.List.{List, []}
 use lib.ListN.{length, getD, replicate, length-replicate}
 use Rattle.tree.specs.Table.{tableOf, underscored, globalsOf, numberNamed}
 use Rattle.rules.specs.Order.{Cmd, fail-name}
@@ -11,7 +11,6 @@ use Rattle.names.specs.State.{no-entry, roomOf, roomsOf, warningIn, outO
 use Rattle.names.specs.Words.{newScope, closedOf}
 use Rattle.names.specs.Does.{Room-for}
 use Rattle.names.specs.Walk.{Goes, wantOf, visitOf, moduleOf}
-use Rattle.names.specs.declared.scope.Entry.{Entry}
 use Rattle.names.specs.declared.scope.Scope.{Scope}
 use Rattle.names.proofs.Lists.{places-none}
 use Rattle.names.proofs.Kept.{inside-kept}
@@ -64,7 +63,7 @@ module _ {t : List ℕ} (ms : Methods t) {c : Cmd} {w v : List ℕ} {s z : Scope
       let q = walked-house in
       rw (e, h)
       (ms .closed (g .does .fits) (inside-kept [] (g .does .fits .words) (g .does .kept) (new-inside w s new))
-        (rw q (every-end (underscored (tableOf t)) Room-for c 0 start every)) (rw q few)
+      (rw q (every-end (underscored (tableOf t)) Room-for c 0 start every)) (rw q few)
       ∙ rw q)
 
 pub module-as : (t : List ℕ) (n : ℕ) {f : ℕ} → f ≡ numberNamed t fail-name → moduleOf t n ≡ visitOf t f (wantOf 0) 0 n

@@ -28,7 +28,16 @@ fn wanted(t: &[u8], c: usize, r: usize) -> bool
 }
 
 // The nodes of role r from i up to e.
-pub fn visit(t: &[u8], i: usize, e: usize, r: usize, d: usize, f: usize, w: &mut [u16], s: Scope) -> Scope
+pub fn visit(
+    t: &[u8],
+    i: usize,
+    e: usize,
+    r: usize,
+    d: usize,
+    f: usize,
+    w: &mut [u16],
+    s: Scope,
+) -> Scope
     requires { ⌜ Part (now t) i e × (d ≤ i) × Fits (now w) s ⌝ }
     ensures { λ z. ⌜ Goes (now (t .entry)) d (visitOf (now (t .entry)) f (wantOf r) i e) (now (w .entry)) s (now (w .exit)) z ⌝ }
 {

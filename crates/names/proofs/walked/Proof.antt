@@ -6,12 +6,6 @@ use Rattle.names.proofs.Starts.{new-fits, walked-out, module-as}
 use borrow.Author.Needs.{needs}
 use Rattle.names.proofs.walked.Statement.{statement}
 use Rattle.names.proofs.walked.Tie as tie
-use Rattle.names.proofs.walked.Reads as reads
-use Rattle.names.proofs.walked.Lts as lts
-use Rattle.names.proofs.scope.Scope.closed.Reads as closed-reads
-use Rattle.names.proofs.scope.Scope.new.Reads as new-reads
-use Rattle.names.proofs.walk.visit.Reads as visit-reads
-use Rattle.tree.proofs.lookup.number_of.Reads as number-of-reads
 
 slice-aggregate-number-of : tie.Need-slice-aggregate-number-of
 slice-aggregate-number-of c = search needs
@@ -34,10 +28,11 @@ same-length : tie.Need-same-length
 same-length c = search needs
 
 returns : tie.Need-returns
-returns c =
-    ((c .before .before .closed) .ensures .2,
-    walked-out (methods _) ((c .before .before .before .before .before .before .before .new) .ensures) (goes-as (module-as _ _ ((c .before .before .before .before .before .before .before .before .before .number-of) .ensures)) ((c .before .before .before .before .before .before .visit) .ensures)) ((c .before .before .before .before .before .before .before .before .before .before .before .before .before) .pre .0 .room) ((c .before .before .before .before .before .before .before .before .before .before .before .before .before) .pre .0 .few)
-      ((c .before .before .closed) .ensures .0) ((c .before .before .closed) .ensures .1))
+returns c = (
+  (c .before .before .closed) .ensures .2,
+  walked-out (methods _) ((c .before .before .before .before .before .before .before .new) .ensures) (goes-as (module-as _ _ ((c .before .before .before .before .before .before .before .before .before .number-of) .ensures)) ((c .before .before .before .before .before .before .visit) .ensures)) ((c .before .before .before .before .before .before .before .before .before .before .before .before .before) .pre .0 .room) ((c .before .before .before .before .before .before .before .before .before .before .before .before .before) .pre .0 .few)
+      ((c .before .before .closed) .ensures .0) ((c .before .before .closed) .ensures .1),
+)
 
 pub walked-spec : {M : Type 1} → statement M
 walked-spec =

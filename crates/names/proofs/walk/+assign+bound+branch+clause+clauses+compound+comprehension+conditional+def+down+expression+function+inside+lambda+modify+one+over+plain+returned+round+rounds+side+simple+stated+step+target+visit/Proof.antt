@@ -1,5 +1,4 @@
 -- The cycle of calls of the walk: what each member leaves is answered in a file of its own. Assumes nothing.
-use Prim.Native.Nat.{ℕ}
 use Rattle.names.proofs.walk.assign.Reads as assign
 use Rattle.names.proofs.walk.+assign+bound+branch+clause+clauses+compound+comprehension+conditional+def+down+expression+function+inside+lambda+modify+one+over+plain+returned+round+rounds+side+simple+stated+step+target+visit.Lts-assign as assign-lts
 use Rattle.names.proofs.walk.bound.Reads as bound

@@ -1,5 +1,5 @@
 -- `take` and `take-one` meet their contracts. Assumes nothing.
-use Prim.Native.Nat.{ℕ, _+_, _*_, _-_, _<_, _≤_}
+use Prim.Native.Nat.{ℕ, _+_, _*_, _-_, _<_}
 use borrow.Author.Needs.{needs}
 use borrow.Author.Tests.{eq-eqb, ne-eqb}
 use native.Mathlib.Omega.{arith}
@@ -7,15 +7,14 @@ use mathlib.Core.Path.{_≡_, refl, sym, ap, _∙_}
 use mathlib.Core.List.{List}
 use lib.ListN.{length}
 use Rattle.tree.specs.Bytes.{sizeAt, roleAt}
-use Rattle.tree.specs.Forest.{forestOf, Part}
+use Rattle.tree.specs.Forest.{Part}
 use Rattle.tree.proofs.Laws.{rest, sized, ended}
-use Rattle.rules.specs.Order.{fail-named, fail-called}
 use Rattle.names.specs.State.{Fits}
-use Rattle.names.specs.Walk.{Goes, named-by, callOf, failOf, bindsIn, bindOf, usesIn, useOf}
+use Rattle.names.specs.Walk.{Goes, usesIn, useOf}
 use Rattle.names.specs.declared.scope.Scope.{Scope}
-use Rattle.names.proofs.Going.{skips, then, goes-as, goes-to, goes-fits}
-use Rattle.names.proofs.Parts.{node-of, node-few, bind-several, bind-name, bind-other, use-several, use-name, use-other}
-use Rattle.names.proofs.Rows.{binds-on, binds-last, uses-on, uses-last, kids-as, bind-as, use-as, node-zero, pick-true, pick-false, names-first, names-second, names-last, wanted-every, wanted-role, named-role, named-kind, named-value, calls-role, calls-kind, calls-so, named-hit, named-miss, named-out, called-hit, called-miss, called-out, call-start, fail-start, name-so}
+use Rattle.names.proofs.Going.{skips, goes-as, goes-to, goes-fits}
+use Rattle.names.proofs.Parts.{node-of, node-few, use-several, use-name, use-other}
+use Rattle.names.proofs.Rows.{uses-on, uses-last, kids-as, use-as, pick-true, pick-false, name-so}
 use Rattle.names.proofs.Held.{methods}
 use borrow.Fn.Kinds.{In}
 use borrow.Fn.PlainCycle.{Measures, is, falls, and}

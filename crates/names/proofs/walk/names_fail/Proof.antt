@@ -1,30 +1,11 @@
 -- `names_fail` meets its contract. Assumes nothing.
-use Prim.Native.Nat.{ℕ, _+_, _*_, _-_, _<_, _≤_}
+use Prim.Native.Nat.{_-_}
 use borrow.Author.Needs.{needs}
-use borrow.Author.Tests.{eq-eqb, ne-eqb}
-use native.Mathlib.Omega.{arith}
-use mathlib.Core.Path.{_≡_, refl, sym, ap, _∙_}
-use mathlib.Core.List.{List}
-use lib.ListN.{length}
-use Rattle.tree.specs.Bytes.{sizeAt, roleAt}
-use Rattle.tree.specs.Forest.{forestOf, Part}
-use Rattle.tree.proofs.Laws.{rest, sized, ended}
-use Rattle.rules.specs.Order.{fail-named, fail-called}
-use Rattle.names.specs.State.{Fits}
-use Rattle.names.specs.Walk.{Goes, named-by, callOf, failOf, bindsIn, bindOf, usesIn, useOf}
-use Rattle.names.specs.declared.scope.Scope.{Scope}
-use Rattle.names.proofs.Going.{skips, then, goes-as, goes-to, goes-fits}
-use Rattle.names.proofs.Parts.{node-of, node-few, bind-several, bind-name, bind-other, use-several, use-name, use-other}
-use Rattle.names.proofs.Rows.{binds-on, binds-last, uses-on, uses-last, kids-as, bind-as, use-as, node-zero, pick-true, pick-false, names-first, names-second, names-last, wanted-every, wanted-role, named-role, named-kind, named-value, calls-role, calls-kind, calls-so, named-hit, named-miss, named-out, called-hit, called-miss, called-out, call-start, fail-start, name-so}
-use Rattle.names.proofs.Held.{methods}
+use mathlib.Core.Path.{sym, _∙_}
+use Rattle.names.proofs.Rows.{named-role, named-kind, named-value}
 use borrow.Author.Needs.{needs}
 use Rattle.names.proofs.walk.names_fail.Statement.{statement}
 use Rattle.names.proofs.walk.names_fail.Tie as tie
-use Rattle.names.proofs.walk.names_fail.Reads as reads
-use Rattle.names.proofs.walk.names_fail.Lts as lts
-use Rattle.tree.proofs.bytes.kind_at.Reads as kind-at-reads
-use Rattle.tree.proofs.bytes.role_at.Reads as role-at-reads
-use Rattle.tree.proofs.bytes.value_at.Reads as value-at-reads
 
 role-at-requires : tie.Need-role-at-requires
 role-at-requires c κs = search needs
