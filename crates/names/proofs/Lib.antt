@@ -24,3 +24,4 @@ pub mod Held
 pub mod Starts
 pub mod Fails
 pub mod Whole
+pub mod Telling

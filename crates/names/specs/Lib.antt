@@ -4,3 +4,4 @@ pub mod State
 pub mod Words
 pub mod Does
 pub mod Walk
+pub mod Answers

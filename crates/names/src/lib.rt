@@ -1,12 +1,32 @@
-// Names: codes 1 to 6.
+// Names (000), after names.rs: 1 unused load, 2 unused assign, 3 unused argument, 4 using unassigned, 5 using undefined,
+// 6 using maybe undefined.
 ghost use mathlib.Core.Path.{_≡_};
-ghost use Prim.Native.Nat.{_≤_};
-ghost use lib.ListN.{length};
+ghost use mathlib.Core.List.{map};
+ghost use Prim.Native.Nat.{_≤_, _<_};
+ghost use lib.ListN.{length, replicate};
+ghost use Rattle.tree.specs.Judge.{judged};
 ghost use Rattle.tree.specs.Table.{tableOf, underscored, globalsOf};
+ghost use Rattle.rules.specs.Names.{told, names-list};
 ghost use Rattle.rules.specs.Marks.{names-tour};
-ghost use Rattle.names.specs.State.{outOf};
+ghost use Rattle.rules.specs.Outcome.{names-answered, names-room-after, names-work-after};
+ghost use Rattle.answer.specs.Page.{write, writes, page};
+ghost use Rattle.names.specs.Answers.{Answers};
+ghost use Rattle.names.specs.State.{outOf, warningIn};
 ghost use Rattle.names.specs.Walk.{moduleOf, Ready};
+use answer::Note;
+use answer::Place;
+use answer::Sheet;
+use answer::put;
+use answer::started;
+use rules::Answer;
+use rules::Refusal;
 use scope::Scope;
+use table::CODE;
+use table::ROOM;
+use table::WARN;
+use table::word_at;
+use tree::Judged;
+use tree::judge;
 use tree::lookup::number_of;
 
 mod scope;
@@ -21,4 +41,85 @@ fn walked(t: &[u8], n: usize, w: &mut [u16]) -> usize
     let f = number_of(t, b"fail");
     let s = walk::visit(t, 0, n, 0, 0, f, w, Scope::new());
     s.closed(t, w)
+}
+
+// The record of the k-th warning: its value is the name.
+fn told(t: &[u8], w: &[u16], k: usize, out: &mut [u32], s: Sheet) -> Sheet
+    requires { ⌜ k < 1024 ⌝ }
+    ensures { λ r. ⌜ page (now (out .exit)) r ≡ write (page (now (out .entry)) s) (told (warningIn (now (t .entry)) (now (w .entry)) k)) ⌝ }
+{
+    let at = word_at(w, WARN + k);
+    let code = word_at(w, CODE + k);
+    put(
+        t,
+        out,
+        s,
+        Note {
+            code: code as u32,
+            at,
+            value: Place::Node(at),
+            second: Place::Nowhere,
+            third: Place::Nowhere,
+        },
+    )
+}
+
+// The records of the first n warnings.
+fn records(t: &[u8], w: &[u16], n: usize, out: &mut [u32], s: Sheet) -> Sheet
+    requires { ⌜ n ≤ 1024 ⌝ }
+    ensures { λ r. ⌜ page (now (out .exit)) r ≡ writes (page (now (out .entry)) s) (map told (outOf (now (t .entry)) (now (w .entry)) n)) ⌝ }
+{
+    let mut r = s;
+    let mut k = 0;
+    while k < n {
+        r = told(t, w, k, out, r);
+        k += 1;
+    }
+    r
+}
+
+// What n warnings answer: their records, where there is room for all.
+fn answer_of(t: &[u8], w: &[u16], n: usize, out: &mut [u32], tally: [usize; 17]) -> Answer
+    requires { ⌜ n ≤ 1024 ⌝ }
+    ensures { λ r. ⌜ Answers (map told (outOf (now (t .entry)) (now (w .entry)) n)) (now (out .entry)) tally r (now (out .exit)) ⌝ }
+{
+    if out.len() / 8 < n {
+        return answer::refused(Refusal::AnswerRoom(n));
+    }
+    answer::listed(records(t, w, n, out, started(tally)))
+}
+
+fn clear(w: &mut [u16])
+    ensures { λ _. ⌜ now (w .exit) ≡ replicate (length (now (w .entry))) 0 ⌝ }
+{
+    let mut k = 0;
+    while k < w.len() {
+        w[k] = 0;
+        k += 1;
+    }
+}
+
+// The pass over the n nodes of a valid file, its work room left zero.
+fn lint(t: &[u8], n: usize, w: &mut [u16], out: &mut [u32], tally: [usize; 17]) -> Answer
+    requires { ⌜ Ready (now t) n × (32768 ≤ length (now w)) ⌝ }
+    ensures { λ r. ⌜ Answers (map told (names-tour (underscored (tableOf (now (t .entry)))) (globalsOf (now (t .entry))) (moduleOf (now (t .entry)) n))) (now (out .entry)) tally r (now (out .exit)) × (now (w .exit) ≡ replicate (length (now (w .entry))) 0) ⌝ }
+{
+    let r = walked(t, n, w);
+    let a = answer_of(t, w, r, out, tally);
+    clear(w);
+    a
+}
+
+// The whole pass, on any bytes. Of the work room it is lent no word beyond the first 32,768.
+pub fn names(t: &[u8], work: &mut [u16], out: &mut [u32], tally: [usize; 17]) -> Answer
+    ensures { λ r. ⌜ (r ≡ names-answered (judged (now (t .entry))) (names-list (now (t .entry))) (now (work .entry)) (now (out .entry)) tally) × (now (out .exit) ≡ names-room-after (judged (now (t .entry))) (names-list (now (t .entry))) (now (work .entry)) (now (out .entry))) × (now (work .exit) ≡ names-work-after (judged (now (t .entry))) (names-list (now (t .entry))) (now (work .entry)) (now (out .entry))) ⌝ }
+{
+    let j = judge(t);
+    let Judged::Valid(f) = j else {
+        return answer::refused(answer::refusal_of(j));
+    };
+    if work.len() < ROOM {
+        return answer::refused(Refusal::WorkRoom);
+    }
+    lint(t, f.nodes, &mut work[..ROOM], out, tally)
 }

@@ -28,6 +28,8 @@ pub const CANT: usize = 5120;
 pub const LOOSE: usize = 6144;
 
 pub const ENDS: usize = 13312;
+// The words that 01 gives the pass.
+pub const ROOM: usize = 32768;
 
 // How two nodes are alike: by name, by name and span, or by these and the sort of setting.
 pub enum Like {
