@@ -9,6 +9,7 @@ ghost use mathlib.Core.Bool.{_&&_};
 ghost use Rattle.tree.specs.Bytes.{sizeAt, valueAt, pick};
 ghost use Rattle.tree.specs.Forest.{headAt, forestOf, Part};
 ghost use Rattle.tree.specs.Judge.{judged};
+ghost use Rattle.tree.specs.declared.Judged.the-variants.{Valid};
 ghost use Rattle.rules.specs.Record.{listed};
 ghost use Rattle.rules.specs.Incompatible.{each};
 ghost use Rattle.rules.specs.Dubious.{keys, doubles, dict-at, idle-at, unsaid, dubious, dubious-list};
@@ -23,6 +24,7 @@ use answer::put;
 use answer::started;
 use rules::Answer;
 use rules::Refusal;
+use tree::Facts;
 use tree::Judged;
 use tree::Mode;
 use tree::bytes::kind_at;
@@ -204,14 +206,12 @@ fn lint(t: &[u8], numbers: &[u16], n: usize, out: &mut [u32], s: Sheet) -> Sheet
     identifier_as_statement(t, n, out, r)
 }
 
-// The whole pass, on any bytes: counted first, into no room, and written where there is room for all.
-pub fn dubious(t: &[u8], mode: Mode, out: &mut [u32], tally: [usize; 17]) -> Answer
+// The whole pass over a valid file, f its facts: counted first, into no room, and written where there is room for all.
+// It requires the judgement, so that the joined call judges a file once.
+pub fn lint_valid(t: &[u8], f: Facts, mode: Mode, out: &mut [u32], tally: [usize; 17]) -> Answer
+    requires { ⌜ judged (now t) ≡ Valid f ⌝ }
     ensures { λ r. ⌜ (r ≡ answered (judged (now (t .entry))) (dubious-list mode (now (t .entry))) (now (out .entry)) tally) × (now (out .exit) ≡ room-after (judged (now (t .entry))) (dubious-list mode (now (t .entry))) (now (out .entry))) ⌝ }
 {
-    let j = judge(t);
-    let Judged::Valid(f) = j else {
-        return answer::refused(answer::refusal_of(j));
-    };
     let n = f.nodes;
     let numbers = key_numbers(t, mode);
     let c = lint(t, &numbers, n, &mut out[..0], started(tally));
@@ -220,4 +220,15 @@ pub fn dubious(t: &[u8], mode: Mode, out: &mut [u32], tally: [usize; 17]) -> Ans
         return answer::refused(Refusal::AnswerRoom(records));
     }
     answer::listed(lint(t, &numbers, n, out, started(tally)))
+}
+
+// The whole pass, on any bytes.
+pub fn dubious(t: &[u8], mode: Mode, out: &mut [u32], tally: [usize; 17]) -> Answer
+    ensures { λ r. ⌜ (r ≡ answered (judged (now (t .entry))) (dubious-list mode (now (t .entry))) (now (out .entry)) tally) × (now (out .exit) ≡ room-after (judged (now (t .entry))) (dubious-list mode (now (t .entry))) (now (out .entry))) ⌝ }
+{
+    let j = judge(t);
+    let Judged::Valid(f) = j else {
+        return answer::refused(answer::refusal_of(j));
+    };
+    lint_valid(t, f, mode, out, tally)
 }

@@ -4,6 +4,7 @@ ghost use mathlib.Core.Path.{_≡_};
 ghost use lib.Dec.{eqb};
 ghost use Rattle.tree.specs.Forest.{forestOf};
 ghost use Rattle.tree.specs.Judge.{judged};
+ghost use Rattle.tree.specs.declared.Judged.the-variants.{Valid};
 ghost use Rattle.rules.specs.Flow.{flow, flow-list};
 ghost use Rattle.rules.specs.Outcome.{answered, room-after};
 ghost use Rattle.answer.specs.Page.{writes, page};
@@ -13,6 +14,7 @@ use answer::Sheet;
 use answer::started;
 use rules::Answer;
 use rules::Refusal;
+use tree::Facts;
 use tree::Judged;
 use tree::judge;
 use tree::lookup::number_of;
@@ -45,14 +47,12 @@ fn lint(
     effect::no_effect(t, strings, n, out, d)
 }
 
-// The whole pass, on any bytes: counted first, into no room, and written where there is room for all.
-pub fn flow(t: &[u8], out: &mut [u32], tally: [usize; 17]) -> Answer
+// The whole pass over a valid file, f its facts: counted first, into no room, and written where there is room for all.
+// It requires the judgement, so that the joined call judges a file once.
+pub fn lint_valid(t: &[u8], f: Facts, out: &mut [u32], tally: [usize; 17]) -> Answer
+    requires { ⌜ judged (now t) ≡ Valid f ⌝ }
     ensures { λ r. ⌜ (r ≡ answered (judged (now (t .entry))) (flow-list (now (t .entry))) (now (out .entry)) tally) × (now (out .exit) ≡ room-after (judged (now (t .entry))) (flow-list (now (t .entry))) (now (out .entry))) ⌝ }
 {
-    let j = judge(t);
-    let Judged::Valid(f) = j else {
-        return answer::refused(answer::refusal_of(j));
-    };
     let n = f.nodes;
     let fail = number_of(t, b"fail");
     let none = number_of(t, b"None");
@@ -63,4 +63,15 @@ pub fn flow(t: &[u8], out: &mut [u32], tally: [usize; 17]) -> Answer
         return answer::refused(Refusal::AnswerRoom(records));
     }
     answer::listed(lint(t, fail, none, &texts, n, out, started(tally)))
+}
+
+// The whole pass, on any bytes.
+pub fn flow(t: &[u8], out: &mut [u32], tally: [usize; 17]) -> Answer
+    ensures { λ r. ⌜ (r ≡ answered (judged (now (t .entry))) (flow-list (now (t .entry))) (now (out .entry)) tally) × (now (out .exit) ≡ room-after (judged (now (t .entry))) (flow-list (now (t .entry))) (now (out .entry))) ⌝ }
+{
+    let j = judge(t);
+    let Judged::Valid(f) = j else {
+        return answer::refused(answer::refusal_of(j));
+    };
+    lint_valid(t, f, out, tally)
 }

@@ -3,6 +3,7 @@
 ghost use mathlib.Core.Path.{_≡_};
 ghost use Rattle.tree.specs.Forest.{forestOf, Part};
 ghost use Rattle.tree.specs.Judge.{judged};
+ghost use Rattle.tree.specs.declared.Judged.the-variants.{Valid};
 ghost use Rattle.rules.specs.Incompatible.{once, incompatible, incompatible-list};
 ghost use Rattle.rules.specs.Outcome.{answered, room-after};
 ghost use Rattle.answer.specs.Page.{writes, page};
@@ -12,6 +13,7 @@ use answer::Sheet;
 use answer::started;
 use rules::Answer;
 use rules::Refusal;
+use tree::Facts;
 use tree::Judged;
 use tree::judge;
 
@@ -26,14 +28,12 @@ fn lint(t: &[u8], names: types::Types, n: usize, out: &mut [u32], s: Sheet) -> S
     assigns::duplicate_top_level_assignment(t, n, out, r)
 }
 
-// The whole pass, on any bytes: counted first, into no room, and written where there is room for all.
-pub fn incompatible(t: &[u8], out: &mut [u32], tally: [usize; 17]) -> Answer
+// The whole pass over a valid file, f its facts: counted first, into no room, and written where there is room for all.
+// It requires the judgement, so that the joined call judges a file once.
+pub fn lint_valid(t: &[u8], f: Facts, out: &mut [u32], tally: [usize; 17]) -> Answer
+    requires { ⌜ judged (now t) ≡ Valid f ⌝ }
     ensures { λ r. ⌜ (r ≡ answered (judged (now (t .entry))) (incompatible-list (now (t .entry))) (now (out .entry)) tally) × (now (out .exit) ≡ room-after (judged (now (t .entry))) (incompatible-list (now (t .entry))) (now (out .entry))) ⌝ }
 {
-    let j = judge(t);
-    let Judged::Valid(f) = j else {
-        return answer::refused(answer::refusal_of(j));
-    };
     let n = f.nodes;
     let names = types::types_of(t);
     let c = lint(t, names, n, &mut out[..0], started(tally));
@@ -42,4 +42,15 @@ pub fn incompatible(t: &[u8], out: &mut [u32], tally: [usize; 17]) -> Answer
         return answer::refused(Refusal::AnswerRoom(records));
     }
     answer::listed(lint(t, names, n, out, started(tally)))
+}
+
+// The whole pass, on any bytes.
+pub fn incompatible(t: &[u8], out: &mut [u32], tally: [usize; 17]) -> Answer
+    ensures { λ r. ⌜ (r ≡ answered (judged (now (t .entry))) (incompatible-list (now (t .entry))) (now (out .entry)) tally) × (now (out .exit) ≡ room-after (judged (now (t .entry))) (incompatible-list (now (t .entry))) (now (out .entry))) ⌝ }
+{
+    let j = judge(t);
+    let Judged::Valid(f) = j else {
+        return answer::refused(answer::refusal_of(j));
+    };
+    lint_valid(t, f, out, tally)
 }

@@ -5,6 +5,7 @@ ghost use mathlib.Core.List.{map};
 ghost use Prim.Native.Nat.{_≤_, _<_};
 ghost use lib.ListN.{length, replicate};
 ghost use Rattle.tree.specs.Judge.{judged};
+ghost use Rattle.tree.specs.declared.Judged.the-variants.{Valid};
 ghost use Rattle.tree.specs.Table.{tableOf, underscored, globalsOf};
 ghost use Rattle.rules.specs.Names.{told, names-list};
 ghost use Rattle.rules.specs.Marks.{names-tour};
@@ -25,6 +26,7 @@ use table::CODE;
 use table::ROOM;
 use table::WARN;
 use table::word_at;
+use tree::Facts;
 use tree::Judged;
 use tree::judge;
 use tree::lookup::number_of;
@@ -110,7 +112,25 @@ fn lint(t: &[u8], n: usize, w: &mut [u16], out: &mut [u32], tally: [usize; 17]) 
     a
 }
 
-// The whole pass, on any bytes. Of the work room it is lent no word beyond the first 32,768.
+// The whole pass over a valid file, f its facts. Of the work room it lends no word beyond the first 32,768.
+// It requires the judgement, so that the joined call judges a file once.
+pub fn lint_valid(
+    t: &[u8],
+    f: Facts,
+    work: &mut [u16],
+    out: &mut [u32],
+    tally: [usize; 17],
+) -> Answer
+    requires { ⌜ judged (now t) ≡ Valid f ⌝ }
+    ensures { λ r. ⌜ (r ≡ names-answered (judged (now (t .entry))) (names-list (now (t .entry))) (now (work .entry)) (now (out .entry)) tally) × (now (out .exit) ≡ names-room-after (judged (now (t .entry))) (names-list (now (t .entry))) (now (work .entry)) (now (out .entry))) × (now (work .exit) ≡ names-work-after (judged (now (t .entry))) (names-list (now (t .entry))) (now (work .entry)) (now (out .entry))) ⌝ }
+{
+    if work.len() < ROOM {
+        return answer::refused(Refusal::WorkRoom);
+    }
+    lint(t, f.nodes, &mut work[..ROOM], out, tally)
+}
+
+// The whole pass, on any bytes.
 pub fn names(t: &[u8], work: &mut [u16], out: &mut [u32], tally: [usize; 17]) -> Answer
     ensures { λ r. ⌜ (r ≡ names-answered (judged (now (t .entry))) (names-list (now (t .entry))) (now (work .entry)) (now (out .entry)) tally) × (now (out .exit) ≡ names-room-after (judged (now (t .entry))) (names-list (now (t .entry))) (now (work .entry)) (now (out .entry))) × (now (work .exit) ≡ names-work-after (judged (now (t .entry))) (names-list (now (t .entry))) (now (work .entry)) (now (out .entry))) ⌝ }
 {
@@ -118,8 +138,5 @@ pub fn names(t: &[u8], work: &mut [u16], out: &mut [u32], tally: [usize; 17]) ->
     let Judged::Valid(f) = j else {
         return answer::refused(answer::refusal_of(j));
     };
-    if work.len() < ROOM {
-        return answer::refused(Refusal::WorkRoom);
-    }
-    lint(t, f.nodes, &mut work[..ROOM], out, tally)
+    lint_valid(t, f, work, out, tally)
 }

@@ -1,40 +1,29 @@
-use native.Mathlib.Omega.{arith}
-use Prim.Native.Nat.{_/_, _<_, _≤_}
-use mathlib.Core.Path.{_≡_, refl, sym, ap, _∙_}
-use lib.ListN.{length}
+use mathlib.Core.Path.{sym, ap, _∙_}
 use Rattle.tree.specs.Judge.{judged}
-use Rattle.tree.specs.declared.Judged.the-variants.{Valid}
 use Rattle.rules.specs.declared.Outcome.the-variants.{Refused}
 use Rattle.rules.specs.Flow.{flow-list}
 use Rattle.answer.specs.Refuse.{refusalOf}
-use Rattle.answer.specs.Page.{writes}
-use Rattle.answer.proofs.Whole.{no-front, unfit-done, short-done, listed-done}
-use Rattle.flow.proofs.ListIs.{list-is, list-few}
+use Rattle.answer.proofs.Whole.{unfit-done}
+use borrow.Author.Needs.{needs}
 use borrow.Author.Needs.{needs}
 use Rattle.flow.proofs.flow.Statement.{statement}
 use Rattle.flow.proofs.flow.Tie as tie
 
--- src/lib.rt:53:9
 judge-requires : tie.Need-judge-requires
 judge-requires c κs = search needs
 
--- src/lib.rt:54:23
 enum-known-j : tie.Need-enum-known-j
 enum-known-j c = search needs
 
--- src/lib.rt:55:32
 enum-told : tie.Need-enum-told
 enum-told c = search needs
 
--- src/lib.rt:55:32
 refusal-of-requires : tie.Need-refusal-of-requires
 refusal-of-requires c κs = search needs
 
--- src/lib.rt:55:9
 refused-requires : tie.Need-refused-requires
 refused-requires c κs = search needs
 
--- src/lib.rt:55:9
 returns : tie.Need-returns
 returns c =
     let t = c .before .before .before .before .before .before .before .args .t .now in
@@ -43,90 +32,14 @@ returns c =
     (c .refused .ensures .0 ∙ ap Refused (c .before .refusal-of .ensures ∙ ap refusalOf (c .before .before .before .before .judge .ensures)))
     (c .refused .ensures .1)
 
--- src/lib.rt:58:29
-slice-aggregate-number-of : tie.Need-slice-aggregate-number-of
-slice-aggregate-number-of c = search needs
+lint-valid-requires : tie.Need-lint-valid-requires
+lint-valid-requires c κs = sym (c .before .before .before .before .judge .ensures) ∙ c .before .before .j .given .1
 
--- src/lib.rt:58:9
-number-of-requires : tie.Need-number-of-requires
-number-of-requires c κs = search needs
-
--- src/lib.rt:59:29
-slice-aggregate-number-of-2 : tie.Need-slice-aggregate-number-of-2
-slice-aggregate-number-of-2 c = search needs
-
--- src/lib.rt:59:9
-number-of-requires-2 : tie.Need-number-of-requires-2
-number-of-requires-2 c κs = search needs
-
--- src/lib.rt:60:17
-strings-requires : tie.Need-strings-requires
-strings-requires c κs = search needs
-
--- src/lib.rt:61:44
-slice-relend-prefix-lint : tie.Need-slice-relend-prefix-lint
-slice-relend-prefix-lint c = search needs
-
--- src/lib.rt:61:44
-slice-aggregate-lint : tie.Need-slice-aggregate-lint
-slice-aggregate-lint c = search needs
-
--- src/lib.rt:61:59
-started-requires : tie.Need-started-requires
-started-requires c κs = search needs
-
--- src/lib.rt:61:9
-lint-requires : tie.Need-lint-requires
-lint-requires c κs =
-    record { facts = c .before .before .before .before .before .before .before .before .before .j .given .0 .0; valid = sym (c .before .before .before .before .before .before .before .before .before .before .before .judge .ensures) ∙ c .before .before .before .before .before .before .before .before .before .j .given .1; nodes = refl }
-
--- src/lib.rt:64:9
-refused-requires-2 : tie.Need-refused-requires-2
-refused-requires-2 c κs = search needs
-
--- src/lib.rt:64:9
 same-length : tie.Need-same-length
 same-length c = search needs
 
--- src/lib.rt:64:9
 returns-2 : tie.Need-returns-2
-returns-2 c =
-    let t = c .before .before .before .before .before .before .before .before .before .before .before .before .before .before .before .before .before .before .before .args .t .now in
-    let o = c .before .before .before .before .before .before .before .before .before .before .before .before .before .before .before .before .before .before .before .args .out .now in
-    let v : judged t ≡ Valid (c .before .before .before .before .before .before .before .before .before .before .before .before .before .before .j .given .0 .0) = sym (c .before .before .before .before .before .before .before .before .before .before .before .before .before .before .before .before .judge .ensures) ∙ c .before .before .before .before .before .before .before .before .before .before .before .before .before .before .j .given .1 in
-    let q = no-front (c .before .before .before .before .lint .last .1 .1 .1 .1 .1 .0) o (omega (arith, c .before .before .before .before .lint .kept .1 .1 .1 .1 .1 .0)) in
-    let h : length o / 8 < c .before .before .before .before .lint .result .count = rw q at (c .before .if1 .taken) in
-    let l = list-is t _ v (λ k. omega (arith, c .before .before .before .before .before .before .before .before .before .before .before .before .before .before .before .before .before .before .shared-slice-known .given k)) (c .before .before .before .before .before .before .before .before .before .before .before .number-of .result) (c .before .before .before .before .before .before .before .before .before .number-of2 .result) (c .before .before .before .before .before .before .before .before .strings .result) (c .before .before .before .before .before .before .before .before .before .before .before .number-of .ensures) (c .before .before .before .before .before .before .before .before .before .number-of2 .ensures) (c .before .before .before .before .before .before .before .before .strings .ensures) in
-    let z = short-done (judged t) _ v (flow-list t) (list-few t _ v) o (c .before .before .before .before .before .before .before .before .before .before .before .before .before .before .before .before .before .before .before .args .tally) _ _ (c .before .before .before .before .before .started .result) (c .before .before .before .before .lint .result) (c .before .before .before .before .before .started .ensures .0) (c .before .before .before .before .lint .ensures ∙ ap (writes _) (sym l)) (c .refused2 .result) h (c .refused2 .ensures .0) (c .refused2 .ensures .1) in
-    (z .0, q ∙ z .1)
-
--- src/lib.rt:66:56
-started-requires-2 : tie.Need-started-requires-2
-started-requires-2 c κs = search needs
-
--- src/lib.rt:66:20
-lint-requires-2 : tie.Need-lint-requires-2
-lint-requires-2 c κs =
-    record { facts = c .before .before .before .before .before .before .before .before .before .before .before .before .before .before .before .before .j .given .0 .0; valid = sym (c .before .before .before .before .before .before .before .before .before .before .before .before .before .before .before .before .before .before .judge .ensures) ∙ c .before .before .before .before .before .before .before .before .before .before .before .before .before .before .before .before .j .given .1; nodes = refl }
-
--- src/lib.rt:66:5
-listed-requires : tie.Need-listed-requires
-listed-requires c κs = search needs
-
--- src/lib.rt:50:1
-same-length-2 : tie.Need-same-length-2
-same-length-2 c = search needs
-
--- src/lib.rt:50:1
-returns-3 : tie.Need-returns-3
-returns-3 c =
-    let t = c .before .before .before .before .before .before .before .before .before .before .before .before .before .before .before .before .before .before .before .before .before .before .before .before .before .args .t .now in
-    let o = c .before .before .before .before .before .before .before .before .before .before .before .before .before .before .before .before .before .before .before .before .before .before .before .before .before .args .out .now in
-    let v : judged t ≡ Valid (c .before .before .before .before .before .before .before .before .before .before .before .before .before .before .before .before .before .before .before .before .j .given .0 .0) = sym (c .before .before .before .before .before .before .before .before .before .before .before .before .before .before .before .before .before .before .before .before .before .before .judge .ensures) ∙ c .before .before .before .before .before .before .before .before .before .before .before .before .before .before .before .before .before .before .before .before .j .given .1 in
-    let q = no-front (c .before .before .before .before .before .before .before .before .before .before .lint .last .1 .1 .1 .1 .1 .0) o (omega (arith, c .before .before .before .before .before .before .before .before .before .before .lint .kept .1 .1 .1 .1 .1 .0)) in
-    let h : c .before .before .before .before .before .before .before .before .before .before .lint .result .count ≤ length o / 8 = rw q at (c .before .before .before .before .before .before .before .if1 .left) in
-    let l = list-is t _ v (λ k. omega (arith, c .before .before .before .before .before .before .before .before .before .before .before .before .before .before .before .before .before .before .before .before .before .before .before .before .shared-slice-known .given k)) (c .before .before .before .before .before .before .before .before .before .before .before .before .before .before .before .before .before .number-of .result) (c .before .before .before .before .before .before .before .before .before .before .before .before .before .before .before .number-of2 .result) (c .before .before .before .before .before .before .before .before .before .before .before .before .before .before .strings .result) (c .before .before .before .before .before .before .before .before .before .before .before .before .before .before .before .before .before .number-of .ensures) (c .before .before .before .before .before .before .before .before .before .before .before .before .before .before .before .number-of2 .ensures) (c .before .before .before .before .before .before .before .before .before .before .before .before .before .before .strings .ensures) in
-    listed-done (judged t) _ v (flow-list t) (list-few t _ v) o (c .before .before .before .before .before .before .before .before .before .before .before .before .before .before .before .before .before .before .before .before .before .before .before .before .before .args .tally) _ _ (c .before .before .before .before .before .before .before .before .before .before .before .started .result) (c .before .before .before .before .before .before .before .before .before .before .lint .result) (c .before .before .before .before .before .before .before .before .before .before .before .started .ensures .0) (c .before .before .before .before .before .before .before .before .before .before .lint .ensures ∙ ap (writes _) (sym l)) (c .listed .result) _ (c .before .before .before .before .started2 .result) (c .before .before .before .lint2 .result) h (c .before .before .before .before .started2 .ensures .0) (c .before .before .before .before .started2 .ensures .1) ((rw q at (c .before .before .before .lint2 .ensures)) ∙ ap (writes _) (sym l)) (c .listed .ensures .0) (c .listed .ensures .1)
+returns-2 c = search needs
 
 pub flow-spec : {M : Type 1} → statement M
 flow-spec =
@@ -138,20 +51,6 @@ flow-spec =
     refusal-of-requires
     refused-requires
     returns
-    slice-aggregate-number-of
-    number-of-requires
-    slice-aggregate-number-of-2
-    number-of-requires-2
-    strings-requires
-    slice-relend-prefix-lint
-    slice-aggregate-lint
-    started-requires
-    lint-requires
-    refused-requires-2
+    lint-valid-requires
     same-length
-    returns-2
-    started-requires-2
-    lint-requires-2
-    listed-requires
-    same-length-2
-    returns-3)
+    returns-2)

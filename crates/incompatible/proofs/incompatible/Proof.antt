@@ -1,32 +1,22 @@
-use native.Mathlib.Omega.{arith}
-use Prim.Native.Nat.{ℕ, _/_, _<_, _≤_}
-use mathlib.Core.Path.{_≡_, sym, ap, _∙_}
-use lib.ListN.{length}
+use mathlib.Core.Path.{sym, ap, _∙_}
 use Rattle.tree.specs.Judge.{judged}
-use Rattle.tree.specs.declared.Judged.the-variants.{Valid}
-use Rattle.tree.proofs.Whole.{whole}
 use Rattle.rules.specs.declared.Outcome.the-variants.{Refused}
 use Rattle.rules.specs.Incompatible.{incompatible-list}
 use Rattle.answer.specs.Refuse.{refusalOf}
-use Rattle.answer.specs.Page.{writes}
-use Rattle.answer.proofs.Whole.{no-front, unfit-done, short-done, listed-done}
-use Rattle.incompatible.proofs.Valid.{low-names, list-is, list-few}
+use Rattle.answer.proofs.Whole.{unfit-done}
+use borrow.Author.Needs.{needs}
 use borrow.Author.Needs.{needs}
 use Rattle.incompatible.proofs.incompatible.Statement.{statement}
 use Rattle.incompatible.proofs.incompatible.Tie as tie
-use Rattle.incompatible.proofs.incompatible.Reads as reads
-use Rattle.incompatible.proofs.incompatible.Lts as lts
 
 judge-requires : tie.Need-judge-requires
 judge-requires c κs = search needs
 
 enum-known-j : tie.Need-enum-known-j
-enum-known-j c =
-    search needs
+enum-known-j c = search needs
 
 enum-told : tie.Need-enum-told
-enum-told c =
-    search needs
+enum-told c = search needs
 
 refusal-of-requires : tie.Need-refusal-of-requires
 refusal-of-requires c κs = search needs
@@ -42,67 +32,14 @@ returns c =
     (c .refused .ensures .0 ∙ ap Refused (c .before .refusal-of .ensures ∙ ap refusalOf (c .before .before .before .before .judge .ensures)))
     (c .refused .ensures .1)
 
-types-of-requires : tie.Need-types-of-requires
-types-of-requires c κs = search needs
-
-slice-relend-prefix-lint : tie.Need-slice-relend-prefix-lint
-slice-relend-prefix-lint c = search needs
-
-slice-aggregate-lint : tie.Need-slice-aggregate-lint
-slice-aggregate-lint c = search needs
-
-started-requires : tie.Need-started-requires
-started-requires c κs = search needs
-
-lint-requires : tie.Need-lint-requires
-lint-requires c κs =
-    let t = c .before .before .before .before .before .before .before .before .before .args .t .now in
-    let v = sym (c .before .before .before .before .before .before .judge .ensures) ∙ c .before .before .before .before .j .given .1 in
-    (whole t _ v, low-names t _ v)
-
-refused-requires-2 : tie.Need-refused-requires-2
-refused-requires-2 c κs = search needs
+lint-valid-requires : tie.Need-lint-valid-requires
+lint-valid-requires c κs = sym (c .before .before .before .before .judge .ensures) ∙ c .before .before .j .given .1
 
 same-length : tie.Need-same-length
 same-length c = search needs
 
 returns-2 : tie.Need-returns-2
-returns-2 c =
-    let t = c .before .before .before .before .before .before .before .before .before .before .before .before .before .before .args .t .now in
-    let o = c .before .before .before .before .before .before .before .before .before .before .before .before .before .before .args .out .now in
-    let v : judged t ≡ Valid (c .before .before .before .before .before .before .before .before .before .j .given .0 .0) = sym (c .before .before .before .before .before .before .before .before .before .before .before .judge .ensures) ∙ c .before .before .before .before .before .before .before .before .before .j .given .1 in
-    let q = no-front (c .before .before .before .before .lint .last .1 .1 .1 .0) o (omega (arith, c .before .before .before .before .lint .kept .1 .1 .1 .0)) in
-    let h : length o / 8 < c .before .before .before .before .lint .result .count = rw q at (c .before .if1 .taken) in
-    let l = list-is t _ v (λ k. omega (arith, c .before .before .before .before .before .before .before .before .before .before .before .before .before .shared-slice-known .given k)) (c .before .before .before .before .before .before .before .types-of .result) (c .before .before .before .before .before .before .before .types-of .ensures) in
-    let few = list-few t _ v in
-    let z = short-done (judged t) _ v (incompatible-list t) few o (c .before .before .before .before .before .before .before .before .before .before .before .before .before .before .args .tally) _ _ (c .before .before .before .before .before .started .result) (c .before .before .before .before .lint .result) (c .before .before .before .before .before .started .ensures .0) (c .before .before .before .before .lint .ensures ∙ ap (writes _) (sym l)) (c .refused2 .result) h (c .refused2 .ensures .0) (c .refused2 .ensures .1) in
-    (z .0, q ∙ z .1)
-
-started-requires-2 : tie.Need-started-requires-2
-started-requires-2 c κs = search needs
-
-lint-requires-2 : tie.Need-lint-requires-2
-lint-requires-2 c κs =
-    let t = c .before .before .before .before .before .before .before .before .before .before .before .before .before .before .before .args .t .now in
-    let v = sym (c .before .before .before .before .before .before .before .before .before .before .before .before .judge .ensures) ∙ c .before .before .before .before .before .before .before .before .before .before .j .given .1 in
-    (whole t _ v, low-names t _ v)
-
-listed-requires : tie.Need-listed-requires
-listed-requires c κs = search needs
-
-same-length-2 : tie.Need-same-length-2
-same-length-2 c = search needs
-
-returns-3 : tie.Need-returns-3
-returns-3 c =
-    let t = c .before .before .before .before .before .before .before .before .before .before .before .before .before .before .before .before .before .before .before .args .t .now in
-    let o = c .before .before .before .before .before .before .before .before .before .before .before .before .before .before .before .before .before .before .before .args .out .now in
-    let v : judged t ≡ Valid (c .before .before .before .before .before .before .before .before .before .before .before .before .before .before .j .given .0 .0) = sym (c .before .before .before .before .before .before .before .before .before .before .before .before .before .before .before .before .judge .ensures) ∙ c .before .before .before .before .before .before .before .before .before .before .before .before .before .before .j .given .1 in
-    let q = no-front (c .before .before .before .before .before .before .before .before .before .lint .last .1 .1 .1 .0) o (omega (arith, c .before .before .before .before .before .before .before .before .before .lint .kept .1 .1 .1 .0)) in
-    let h : c .before .before .before .before .before .before .before .before .before .lint .result .count ≤ length o / 8 = rw q at (c .before .before .before .before .before .before .if1 .left) in
-    let l = list-is t _ v (λ k. omega (arith, c .before .before .before .before .before .before .before .before .before .before .before .before .before .before .before .before .before .before .shared-slice-known .given k)) (c .before .before .before .before .before .before .before .before .before .before .before .before .types-of .result) (c .before .before .before .before .before .before .before .before .before .before .before .before .types-of .ensures) in
-    let few = list-few t _ v in
-    listed-done (judged t) _ v (incompatible-list t) few o (c .before .before .before .before .before .before .before .before .before .before .before .before .before .before .before .before .before .before .before .args .tally) _ _ (c .before .before .before .before .before .before .before .before .before .before .started .result) (c .before .before .before .before .before .before .before .before .before .lint .result) (c .before .before .before .before .before .before .before .before .before .before .started .ensures .0) (c .before .before .before .before .before .before .before .before .before .lint .ensures ∙ ap (writes _) (sym l)) (c .listed .result) _ (c .before .before .before .before .started2 .result) (c .before .before .before .lint2 .result) h (c .before .before .before .before .started2 .ensures .0) (c .before .before .before .before .started2 .ensures .1) ((rw q at (c .before .before .before .lint2 .ensures)) ∙ ap (writes _) (sym l)) (c .listed .ensures .0) (c .listed .ensures .1)
+returns-2 c = search needs
 
 pub incompatible-spec : {M : Type 1} → statement M
 incompatible-spec =
@@ -114,16 +51,6 @@ incompatible-spec =
     refusal-of-requires
     refused-requires
     returns
-    types-of-requires
-    slice-relend-prefix-lint
-    slice-aggregate-lint
-    started-requires
-    lint-requires
-    refused-requires-2
+    lint-valid-requires
     same-length
-    returns-2
-    started-requires-2
-    lint-requires-2
-    listed-requires
-    same-length-2
-    returns-3)
+    returns-2)
