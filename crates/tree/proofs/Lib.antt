@@ -14,6 +14,7 @@ pub mod KeySamples
 pub mod Tables
 pub mod Table
 pub mod Slots
+pub mod Filled
 pub mod Six
 pub mod Limits
 pub mod Above

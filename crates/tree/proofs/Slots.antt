@@ -1,12 +1,13 @@
 -- The code's table of children agrees with the list of 01: one computed test. Assumes nothing.
-use Prim.Native.Nat.{ℕ, zero, suc, _/_, _%_, _^_, _≤_, _<_}
+use Prim.Native.Nat.{ℕ, zero, suc, _+_, _/_, _%_, _^_, _≤_, _<_}
 use native.Mathlib.Omega.{arith}
-use mathlib.Core.Path.{_≡_, refl, sym}
+use mathlib.Core.Path.{_≡_, refl, sym, ap, _∙_}
 use mathlib.Core.List.{[], List, _∷_}
 use mathlib.Core.Bool.{Bool, true, false, _&&_}
 use lib.ListN.{getD}
 use lib.Dec.{T, eqb, ltb, eqb→eq, ltb→lt}
 use native.Mathlib.Decide.{decLt}
+use native.Mathlib.Numerals.{add-one}
 use borrow.Author.Tests.{ne-eqb, lt-ltb, le-ltb}
 use Rattle.tree.specs.Bytes.{pick}
 use Rattle.tree.specs.Children.{Slot, slot, slots, slotsOf, slotIn, slotOf}
@@ -192,3 +193,62 @@ power-some r h = ltb→lt 0 (getD power-list r 0) (at power-pos power-list tt r 
 pub digit-read : (k r : ℕ) → k < 48 → r < 9 → getD rows k 0 / getD power-list r 0 % 16 ≡ digitOf k r
 unfolding digit
 digit-read k r a b = rw (power-at r b) (sym (digit-in k r a b))
+
+-- row x without its r lowest digits, as the code comes to it
+unfoldable pub cut : ℕ → ℕ → ℕ
+cut x zero = x
+cut x (suc r) = cut x r / 16
+
+cut-digit : ℕ → ℕ → Bool
+cut-digit x r = eqb (cut x r % 16) (digit x r)
+
+cut-right : ℕ → ℕ → Bool
+cut-right k x = below 9 (cut-digit x) && eqb (cut x 9) 0
+
+cut-at : (k : ℕ) → k < 48 → T (cut-right k (getD rows k 0))
+unfolding rows cut cut-right cut-digit below digit
+cut-at k h = at cut-right rows tt k (omega arith)
+
+cut-read : (k r : ℕ) → k < 48 → r < 9 → cut (getD rows k 0) r % 16 ≡ digitOf k r
+unfolding cut-right cut-digit
+cut-read k r a b =
+    let x = getD rows k 0 in
+    let t = below-at 9 (cut-digit x) (and-l (below 9 (cut-digit x)) (eqb (cut x 9) 0) (cut-at k a)) r b in
+    eqb→eq (cut x r % 16) (digit x r) t ∙ sym (digit-in k r a b)
+
+cut-end : (k : ℕ) → k < 48 → cut (getD rows k 0) 9 ≡ 0
+unfolding cut-right
+cut-end k a = let x = getD rows k 0 in eqb→eq (cut x 9) 0 (and-r (below 9 (cut-digit x)) (eqb (cut x 9) 0) (cut-at k a))
+
+pub cut-none : (x : ℕ) → x ≡ cut x 0
+unfolding cut
+cut-none x = refl
+
+pub cut-more : (x r : ℕ) → cut x r / 16 ≡ cut x (r + 1)
+unfolding cut
+cut-more x r = rw add-one
+
+-- nothing left stays nothing left
+cut-stays : (x r i : ℕ) → r ≤ i → cut x r ≡ 0 → cut x i ≡ 0
+unfolding cut
+cut-stays x r zero h z = let e : r ≡ 0 = omega arith in rw e at z
+cut-stays x r (suc i) h z = go (decLt r (suc i)) (λ l. cut-stays x r i l z)
+  where
+    go : Dec (r < suc i) → (r ≤ i → cut x i ≡ 0) → cut x i / 16 ≡ 0
+    go (yes l) g = ap (λ (n : ℕ). n / 16) (g (omega arith))
+    go (no l) g = let e : r ≡ suc i = omega arith in rw e at z
+
+pub cut-nothing : (k r : ℕ) → k < 48 → cut (getD rows k 0) r ≡ 0 → (i : ℕ) → r ≤ i → digitOf k i ≡ 0
+cut-nothing k r a z i h = go (decLt i 9)
+  where
+    go : Dec (i < 9) → digitOf k i ≡ 0
+    go (yes l) = sym (cut-read k i a l) ∙ ap (λ (n : ℕ). n % 16) (cut-stays (getD rows k 0) r i h z)
+    go (no l) = digit-past k i (omega arith)
+
+-- while digits are left, the lowest is that of role r
+pub cut-here : (k r row : ℕ) → k < 48 → r ≤ 9 → row ≡ cut (getD rows k 0) r → (row ≡ 0 → ⊥) → (r < 9) × (digitOf k r ≡ row % 16)
+cut-here k r row a b q n = go (decLt r 9)
+  where
+    go : Dec (r < 9) → (r < 9) × (digitOf k r ≡ row % 16)
+    go (yes l) = (l, rw q (sym (cut-read k r a l)))
+    go (no l) = let e : r ≡ 9 = omega arith in absurd (n (q ∙ rw e (cut-end k a)))

@@ -1,10 +1,11 @@
 // The children of a node: what they may be, refusal 7, and the first one of a role.
 ghost use mathlib.Core.Path.{_≡_};
 ghost use Prim.Native.Nat.{_+_, _<_, _≤_};
+ghost use mathlib.Core.Bool.{true};
 ghost use Rattle.tree.specs.Bytes.{sizeAt};
 ghost use Rattle.tree.specs.Search.{lowest};
 ghost use Rattle.tree.specs.Find.{childOf};
-ghost use Rattle.tree.specs.Packed.{digitOf};
+ghost use Rattle.tree.specs.Packed.{digitOf, Fills};
 ghost use Rattle.tree.specs.Children.{classOf, inClass, slotOf, kidsFrom, allStand, ofRole, allFilled, paired, forFirst, inOrder, good7, rootOk, bad7, Sized};
 ghost use Rattle.tree.specs.Judge.{None6};
 use crate::bytes::kind_at;
@@ -136,18 +137,6 @@ fn slot_class(k: usize, r: usize) -> usize
     widen(CLASSES[slot_number(k, r)])
 }
 
-fn slot_least(k: usize, r: usize) -> usize
-    ensures { λ x. ⌜ x ≡ slotOf k r .least ⌝ }
-{
-    widen(LEAST[slot_number(k, r)])
-}
-
-fn slot_most(k: usize, r: usize) -> usize
-    ensures { λ x. ⌜ x ≡ slotOf k r .most ⌝ }
-{
-    widen(MOST[slot_number(k, r)])
-}
-
 fn stands(c: usize, k: usize) -> bool
     ensures { λ r. ⌜ r ≡ inClass c k ⌝ }
 {
@@ -186,19 +175,38 @@ fn of_role(t: &[u8], r: usize, from: usize, e: usize) -> usize
     m
 }
 
+// Whether the children of role r are as many as d says, the number of what may stand there. Where that is nothing, no
+// child that stands has the role: there is none to count.
+fn role_filled(t: &[u8], d: usize, r: usize, from: usize, e: usize) -> bool
+    requires { ⌜ (e ≤ 1024) × Sized (now t) e × (d < 13) ⌝ }
+    ensures { λ x. ⌜ Fills (now (t .entry)) d r (kidsFrom (now (t .entry)) from e) x ⌝ }
+{
+    if d == 0 {
+        return true;
+    }
+    let m = of_role(t, r, from, e);
+    if m < widen(LEAST[d]) {
+        return false;
+    }
+    m <= widen(MOST[d])
+}
+
+// Digit by digit while any is left of the kind's row.
 fn all_filled(t: &[u8], k: usize, from: usize, e: usize) -> bool
-    requires { ⌜ (e ≤ 1024) × Sized (now t) e ⌝ }
+    requires { ⌜ (e ≤ 1024) × Sized (now t) e × (allStand (now t) k (kidsFrom (now t) from e) ≡ true) ⌝ }
     ensures { λ r. ⌜ r ≡ allFilled 9 (now (t .entry)) k (kidsFrom (now (t .entry)) from e) ⌝ }
 {
+    if 48 <= k {
+        return true;
+    }
+    let mut row = ROWS[k];
     let mut r = 0;
-    while r < 9 {
-        let m = of_role(t, r, from, e);
-        if m < slot_least(k, r) {
+    while row != 0 {
+        let d = (row % 16) as usize;
+        if !role_filled(t, d, r, from, e) {
             return false;
         }
-        if slot_most(k, r) < m {
-            return false;
-        }
+        row /= 16;
         r += 1;
     }
     true

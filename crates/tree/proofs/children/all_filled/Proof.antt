@@ -1,57 +1,63 @@
 use borrow.Author.Needs.{needs}
-use borrow.Author.Tests.{le-leb, lt-leb}
+use borrow.Author.Tests.{not-true, not-false}
 use Prim.Native.Nat.{_-_, _≤_}
 use native.Mathlib.Omega.{arith}
-use mathlib.Core.Path.{_≡_, sym}
-use mathlib.Core.Bool.{true, false}
+use mathlib.Core.Path.{_≡_, sym, _∙_}
+use mathlib.Core.Bool.{true}
+use lib.ListN.{getD}
 use Rattle.tree.specs.Children.{kidsFrom, allFilled, filled}
+use Rattle.tree.specs.Packed.{rows}
 use Rattle.tree.proofs.Kids.{filled-none, filled-more, filled-not}
+use Rattle.tree.proofs.Slots.{cut, cut-none, cut-more, cut-here, digit-small}
+use Rattle.tree.proofs.Filled.{filled-far, filled-rest}
 use Rattle.tree.proofs.children.all_filled.Statement.{statement}
 use Rattle.tree.proofs.children.all_filled.Tie as tie
 
 abbrev Inv-loop : tie.InvT-loop
-Inv-loop t k from e r₀ r = (r ≤ 9) × (allFilled r t k (kidsFrom t from e) ≡ true)
+Inv-loop t k from e row₀ r₀ row r = (r ≤ 9) × (row ≡ cut (getD rows k 0) r) × (allFilled r t k (kidsFrom t from e) ≡ true)
 
 abbrev μ-loop : tie.MeasureT-loop
-μ-loop t k from e r₀ r = 9 - r
-
-loop-holds : tie.Need-loop-holds Inv-loop μ-loop
-loop-holds c =
-    (search needs, filled-none ((c .before .args .t .now)) ((c .before .args .k)) (kidsFrom (c .before .args .t .now) (c .before .args .from) (c .before .args .e)))
-
-of-role-requires : tie.Need-of-role-requires Inv-loop μ-loop
-of-role-requires c κs = search needs
-
-slot-least-requires : tie.Need-slot-least-requires Inv-loop μ-loop
-slot-least-requires c κs = search needs
+μ-loop t k from e row₀ r₀ row r = 9 - r
 
 returns : tie.Need-returns Inv-loop μ-loop
-returns c =
-    let z : filled ((c .before .before .before .before .before .before .args .t .now)) ((c .before .before .before .before .before .before .args .k)) (kidsFrom (c .before .before .before .before .before .before .args .t .now) (c .before .before .before .before .before .before .args .from) (c .before .before .before .before .before .before .args .e)) (c .before .before .before .before .loop .r) ≡ false = rw (← c .before .before .of-role .ensures, ← c .before .slot-least .ensures) (simp (lt-leb _ _ (c .if1 .taken))) in
-    sym (filled-not 9 ((c .before .before .before .before .before .before .args .t .now)) ((c .before .before .before .before .before .before .args .k)) (kidsFrom (c .before .before .before .before .before .before .args .t .now) (c .before .before .before .before .before .before .args .from) (c .before .before .before .before .before .before .args .e)) (c .before .before .before .before .loop .r) (omega arith) z)
+returns c = filled-far (c .before .before .args .t .now) (c .before .before .args .k) (kidsFrom (c .before .before .args .t .now) (c .before .before .args .from) (c .before .before .args .e)) (c .before .before .pre .2) (c .if1 .taken)
 
-slot-most-requires : tie.Need-slot-most-requires Inv-loop μ-loop
-slot-most-requires c κs = search needs
+mul-row : tie.Need-mul-row Inv-loop μ-loop
+mul-row c = search needs
+
+array-read-row : tie.Need-array-read-row Inv-loop μ-loop
+array-read-row c = search needs
+
+loop-holds : tie.Need-loop-holds Inv-loop μ-loop
+unfolding rows
+loop-holds c = (search needs, cut-none _, filled-none (c .before .before .args .t .now) (c .before .before .args .k) (kidsFrom (c .before .before .args .t .now) (c .before .before .args .from) (c .before .before .args .e)))
+
+role-filled-requires : tie.Need-role-filled-requires Inv-loop μ-loop
+role-filled-requires c κs =
+    let h = cut-here (c .before .before .before .before .args .k) (c .before .loop .r) (c .before .loop .row) (omega arith) (c .before .loop .inv .0) (c .before .loop .inv .1) (c .loop-test .taken) in
+    (c .before .before .before .before .pre .0, c .before .before .before .before .pre .1, rw (← h .1) (digit-small (c .before .before .before .before .args .k) (c .before .loop .r) (omega arith) (h .0)))
 
 returns-2 : tie.Need-returns-2 Inv-loop μ-loop
 returns-2 c =
-    let z : filled ((c .before .before .before .before .before .before .before .before .args .t .now)) ((c .before .before .before .before .before .before .before .before .args .k)) (kidsFrom (c .before .before .before .before .before .before .before .before .args .t .now) (c .before .before .before .before .before .before .before .before .args .from) (c .before .before .before .before .before .before .before .before .args .e)) (c .before .before .before .before .before .before .loop .r) ≡ false = rw (← c .before .before .before .before .of-role .ensures, ← c .before .before .before .slot-least .ensures, ← c .before .slot-most .ensures) (simp (le-leb _ _ (c .before .before .if1 .left), lt-leb _ _ (c .if2 .taken))) in
-    sym (filled-not 9 ((c .before .before .before .before .before .before .before .before .args .t .now)) ((c .before .before .before .before .before .before .before .before .args .k)) (kidsFrom (c .before .before .before .before .before .before .before .before .args .t .now) (c .before .before .before .before .before .before .before .before .args .from) (c .before .before .before .before .before .before .before .before .args .e)) (c .before .before .before .before .before .before .loop .r) (omega arith) z)
+    let h = cut-here (c .before .before .before .before .before .before .args .k) (c .before .before .before .loop .r) (c .before .before .before .loop .row) (omega arith) (c .before .before .before .loop .inv .0) (c .before .before .before .loop .inv .1) (c .before .before .loop-test .taken) in
+    let f : c .before .role-filled .result ≡ filled (c .before .before .before .before .before .before .args .t .now) (c .before .before .before .before .before .before .args .k) (kidsFrom (c .before .before .before .before .before .before .args .t .now) (c .before .before .before .before .before .before .args .from) (c .before .before .before .before .before .before .args .e)) (c .before .before .before .loop .r) = c .before .role-filled .ensures (c .before .before .before .before .before .before .args .k) (h .1) (c .before .before .before .before .before .before .pre .2) in
+    sym (filled-not 9 (c .before .before .before .before .before .before .args .t .now) (c .before .before .before .before .before .before .args .k) (kidsFrom (c .before .before .before .before .before .before .args .t .now) (c .before .before .before .before .before .before .args .from) (c .before .before .before .before .before .before .args .e)) (c .before .before .before .loop .r) (h .0) (sym f ∙ not-true (c .before .role-filled .result) (c .if2 .taken)))
 
 add-r : tie.Need-add-r Inv-loop μ-loop
 add-r c = search needs
 
 loop-less : tie.Need-loop-less Inv-loop μ-loop
-loop-less c = search needs
+loop-less c =
+    let h = cut-here (c .before .before .before .before .before .before .args .k) (c .before .before .before .loop .r) (c .before .before .before .loop .row) (omega arith) (c .before .before .before .loop .inv .0) (c .before .before .before .loop .inv .1) (c .before .before .loop-test .taken) in let l = h .0 in omega arith
 
 loop-again : tie.Need-loop-again Inv-loop μ-loop
 loop-again c =
-    let z : filled ((c .before .before .before .before .before .before .before .before .args .t .now)) ((c .before .before .before .before .before .before .before .before .args .k)) (kidsFrom (c .before .before .before .before .before .before .before .before .args .t .now) (c .before .before .before .before .before .before .before .before .args .from) (c .before .before .before .before .before .before .before .before .args .e)) (c .before .before .before .before .before .before .loop .r) ≡ true = rw (← c .before .before .before .before .of-role .ensures, ← c .before .before .before .slot-least .ensures, ← c .before .slot-most .ensures) (simp (le-leb _ _ (c .before .before .if1 .left), le-leb _ _ (c .if2 .left))) in
-    (search needs, filled-more (c .before .before .before .before .before .before .loop .r) ((c .before .before .before .before .before .before .before .before .args .t .now)) ((c .before .before .before .before .before .before .before .before .args .k)) (kidsFrom (c .before .before .before .before .before .before .before .before .args .t .now) (c .before .before .before .before .before .before .before .before .args .from) (c .before .before .before .before .before .before .before .before .args .e)) (c .before .before .before .before .before .before .loop .inv .1) z)
+    let h = cut-here (c .before .before .before .before .before .before .args .k) (c .before .before .before .loop .r) (c .before .before .before .loop .row) (omega arith) (c .before .before .before .loop .inv .0) (c .before .before .before .loop .inv .1) (c .before .before .loop-test .taken) in
+    let f : c .before .role-filled .result ≡ filled (c .before .before .before .before .before .before .args .t .now) (c .before .before .before .before .before .before .args .k) (kidsFrom (c .before .before .before .before .before .before .args .t .now) (c .before .before .before .before .before .before .args .from) (c .before .before .before .before .before .before .args .e)) (c .before .before .before .loop .r) = c .before .role-filled .ensures (c .before .before .before .before .before .before .args .k) (h .1) (c .before .before .before .before .before .before .pre .2) in
+    (omega arith, rw (c .before .before .before .loop .inv .1) (cut-more _ (c .before .before .before .loop .r)), filled-more (c .before .before .before .loop .r) (c .before .before .before .before .before .before .args .t .now) (c .before .before .before .before .before .before .args .k) (kidsFrom (c .before .before .before .before .before .before .args .t .now) (c .before .before .before .before .before .before .args .from) (c .before .before .before .before .before .before .args .e)) (c .before .before .before .loop .inv .2) (sym f ∙ not-false (c .before .role-filled .result) (c .if2 .left)))
 
 returns-3 : tie.Need-returns-3 Inv-loop μ-loop
-returns-3 c =
-    let q : (c .before .loop .r) ≡ 9 = omega arith in let w = c .before .loop .inv .1 in sym (rw q at w)
+returns-3 c = filled-rest (c .before .before .before .before .args .t .now) (c .before .before .before .before .args .k) (kidsFrom (c .before .before .before .before .args .t .now) (c .before .before .before .before .args .from) (c .before .before .before .before .args .e)) (c .before .before .before .before .pre .2) (c .before .loop .r) (omega arith) (c .before .loop .inv .0) (sym (c .before .loop .inv .1) ∙ c .loop-test .left) (c .before .loop .inv .2)
 
 pub all-filled-spec : {M : Type 1} → statement M
 all-filled-spec =
@@ -59,11 +65,11 @@ all-filled-spec =
     (tie.spec
     Inv-loop
     μ-loop
-    loop-holds
-    of-role-requires
-    slot-least-requires
     returns
-    slot-most-requires
+    mul-row
+    array-read-row
+    loop-holds
+    role-filled-requires
     returns-2
     add-r
     loop-less

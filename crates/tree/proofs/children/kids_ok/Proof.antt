@@ -2,7 +2,7 @@ use borrow.Author.Needs.{needs}
 use borrow.Author.Tests.{not-true, not-false}
 use Prim.Native.Nat.{_-_}
 use native.Mathlib.Omega.{arith}
-use mathlib.Core.Path.{_∙_}
+use mathlib.Core.Path.{sym, _∙_}
 use Rattle.tree.specs.Children.{kidsOf, good7}
 use Rattle.tree.proofs.children.kids_ok.Statement.{statement}
 use Rattle.tree.proofs.children.kids_ok.Tie as tie
@@ -30,7 +30,7 @@ returns c =
 
 all-filled-requires : tie.Need-all-filled-requires
 all-filled-requires c κs =
-    (omega (arith, c .before .before .size-at .ensures .0), λ j h. c .before .before .before .before .before .pre .2 j (omega (arith, c .before .before .size-at .ensures .0)))
+    (omega (arith, c .before .before .size-at .ensures .0), λ j h. c .before .before .before .before .before .pre .2 j (omega (arith, c .before .before .size-at .ensures .0)), sym (c .before .all-stand .ensures) ∙ not-false (c .before .all-stand .result) (c .if1 .left))
 
 returns-2 : tie.Need-returns-2
 unfolding good7 kidsOf
