@@ -26,4 +26,5 @@ pub mod Tally
 pub mod Whole
 pub mod Words
 pub mod Answered
+pub mod Called
 pub mod Known

@@ -8,8 +8,10 @@ pub mod Dubious
 pub mod Joined
 pub mod Outcome
 pub mod Calls
+pub mod Afterwards
 pub mod Runs
 pub mod Premises
 pub mod Letter
 pub mod Marks
+pub mod Codes
 pub mod Known

@@ -1,0 +1,3 @@
+-- What the contracts of lint cite.
+pub mod Links
+pub mod Named
