@@ -1,8 +1,9 @@
 //! The Rust beside another program that speaks document 01's listing, or beside
 //! lists already written; the smallest file that differs is shown.
 use crate::batch;
-use crate::listing::Source::Rust;
+use crate::listing::Source::{Rules, Rust};
 use crate::reduce::reduced;
+use crate::rules::Mode;
 use crate::show::show;
 use std::io::{Read, Write};
 use std::process::{Command, Stdio};
@@ -11,6 +12,8 @@ use std::process::{Command, Stdio};
 pub struct Program {
     pub words: Vec<String>,
     pub each: bool,
+    /// Strict keys are asked for at each file's length, by its highest bit.
+    pub keys: Mode,
     /// Files for one start of a program that takes many.
     pub chunk: usize,
 }
@@ -42,7 +45,7 @@ impl Program {
         let mut out: Vec<String> = Vec::new();
         while out.len() < files.len() {
             let part = &files[out.len()..files.len().min(out.len() + self.chunk)];
-            let mut lists = batch::split_lists(&self.run(batch::join(part))?);
+            let mut lists = batch::split_lists(&self.run(self.joined(part))?);
             lists.truncate(part.len());
             // Where it stopped it has no answer; the rest goes to a new start.
             if lists.len() < part.len() {
@@ -53,12 +56,23 @@ impl Program {
         Ok(out)
     }
 
+    fn joined(&self, files: &[Vec<u8>]) -> Vec<u8> {
+        match self.keys {
+            Mode::Ordinary => batch::join(files),
+            Mode::Strict => batch::join_strict(files),
+        }
+    }
+
     /// A program for one file is document 01's own; one for many is the joined call.
     fn wanted(&self, file: &[u8]) -> String {
+        let source = match self.keys {
+            Mode::Ordinary => Rust,
+            Mode::Strict => Rules(Mode::Strict),
+        };
         if self.each {
-            Rust.listing(file, None)
+            source.listing(file, None)
         } else {
-            Rust.answer(file, None)
+            source.answer(file, None)
         }
     }
 }

@@ -14,13 +14,24 @@ pub fn split(mut bytes: &[u8]) -> Result<Vec<Vec<u8>>, String> {
     Ok(out)
 }
 
-pub fn join(files: &[Vec<u8>]) -> Vec<u8> {
+/// In a length's highest bit: strict keys.
+const STRICT: u32 = 1 << 31;
+
+fn joined(files: &[Vec<u8>], flag: u32) -> Vec<u8> {
     let mut out = Vec::new();
     for file in files {
-        out.extend((file.len() as u32).to_le_bytes());
+        out.extend((file.len() as u32 | flag).to_le_bytes());
         out.extend(file);
     }
     out
+}
+
+pub fn join(files: &[Vec<u8>]) -> Vec<u8> {
+    joined(files, 0)
+}
+
+pub fn join_strict(files: &[Vec<u8>]) -> Vec<u8> {
+    joined(files, STRICT)
 }
 
 /// Each listing with its own lines, the `--` taken away.

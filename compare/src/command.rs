@@ -18,10 +18,12 @@ const USAGE: &str = "usage:
   compare show                        a file's nodes by name
   compare make [--seed S] [--from I] [--count N] [--any-order] [--damage]
                                       generated files, each after its length, on standard output
+  compare sized SORT                  trees of one sort at growing numbers of nodes, each after its length;
+                                      SORT: straight, loops, dicts, names; deep: the deepest trees
   compare coverage FILES..            what files show
   compare lists FILES LISTS           the Rust beside lists written before
-  compare against [--each] [--chunk N] [--as-found] FILES.. -- PROGRAM ..
-                                      the Rust beside a program
+  compare against [--each] [--strict] [--chunk N] [--as-found] FILES.. -- PROGRAM ..
+                                      the Rust beside a program; strict keys: document 01's rules beside it
   compare record [--seed S] [--count N] [--bytes N] FOLDER
                                       chooses and writes the recorded list
 P: names, flow, incompatible, dubious. FILES hold many files, each after its length.";
@@ -96,10 +98,11 @@ pub fn run(words: &[String]) -> Result<bool, String> {
             Ok(true)
         }
         "make" => make(Words::new(words, &["--seed", "--from", "--count"], &["--any-order", "--damage"])?),
+        "sized" => sized(Words::new(words, &[], &[])?),
         "coverage" => coverage(Words::new(words, &[], &[])?),
         "lists" => lists(Words::new(words, &[], &[])?),
         "record" => record(Words::new(words, &["--seed", "--count", "--bytes"], &[])?),
-        "against" => beside(Words::new(words, &["--chunk"], &["--each", "--as-found"])?),
+        "against" => beside(Words::new(words, &["--chunk"], &["--each", "--strict", "--as-found"])?),
         _ => Err(USAGE.to_owned()),
     }
 }
@@ -160,6 +163,13 @@ fn make(words: Words) -> Result<bool, String> {
     }
 }
 
+fn sized(words: Words) -> Result<bool, String> {
+    let [sort] = words.rest.as_slice() else { return Err(USAGE.to_owned()) };
+    let files = crate::hand::sized::files(sort).ok_or(USAGE)?;
+    print_all(files.into_iter().map(|x| batch::join(&[x.file])));
+    Ok(true)
+}
+
 fn coverage(words: Words) -> Result<bool, String> {
     let mut found = Coverage::default();
     words.files()?.iter().for_each(|f| found.add(f));
@@ -180,7 +190,8 @@ fn beside(words: Words) -> Result<bool, String> {
         return Err(USAGE.to_owned());
     }
     let chunk = words.number("--chunk", 1000)?.max(1) as usize;
-    let program = Program { words: words.after.clone(), each: words.has("--each"), chunk };
+    let keys = if words.has("--strict") { Mode::Strict } else { Mode::Ordinary };
+    let program = Program { words: words.after.clone(), each: words.has("--each"), keys, chunk };
     let found = against(&program, &words.files()?, !words.has("--as-found"))?;
     print(found.report().as_bytes());
     Ok(found.count == 0)

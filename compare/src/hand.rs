@@ -7,6 +7,7 @@ mod limits;
 mod names;
 mod others;
 mod refusals;
+pub mod sized;
 
 use crate::tree::{Node, Tree};
 use build::*;

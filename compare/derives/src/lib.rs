@@ -100,10 +100,16 @@ pub fn error(input: TokenStream) -> TokenStream {
     let mut arms = String::new();
     for v in &variants {
         let mut text = v.error.clone().expect("error text");
+        // Named outright: older compilers don't catch names in a derived text.
+        let mut given = String::new();
         for i in 0..v.fields {
-            text = text.replace(&format!("{{{i}}}"), &format!("{{_{i}}}"));
+            let said = format!("{{{i}}}");
+            if text.contains(&said) {
+                text = text.replace(&said, &format!("{{_{i}}}"));
+                given += &format!(", _{i} = _{i}");
+            }
         }
-        arms += &format!("Self::{}{} => ::std::write!(out, {text}),", v.name, binder(v));
+        arms += &format!("Self::{}{} => ::std::write!(out, {text}{given}),", v.name, binder(v));
     }
     format!("{} impl ::std::error::Error for {name} {{}}", display(&name, &arms)).parse().unwrap()
 }

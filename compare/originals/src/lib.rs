@@ -31,4 +31,4 @@ mod values;
 
 pub use bigint::*;
 pub use error::{Error, Result};
-pub use report::{records, Record};
+pub use report::{count, records, Record};

@@ -87,6 +87,21 @@ impl Named<'_> {
     }
 }
 
+/// How many warnings the named passes give over a valid tree file. No record is made: what is
+/// measured is reading and the Rust. Panics on a file that isn't valid.
+pub fn count(bytes: &[u8], passes: &[&str]) -> usize {
+    let tree = Tree::read(bytes);
+    let module = AstModule { root: tree.root() };
+    let count = |pass: &&str| match *pass {
+        "names" => names::lint(&module, tree.globals.as_ref()).len(),
+        "flow" => flow::lint(&module).len(),
+        "incompatible" => incompatible::lint(&module).len(),
+        "dubious" => dubious::lint(&module).len(),
+        other => panic!("no pass {other}"),
+    };
+    passes.iter().map(count).sum()
+}
+
 /// The records of names, flow, incompatible and dubious over a valid tree file,
 /// each pass's in the Rust's order. Panics on a file that isn't valid.
 pub fn records(bytes: &[u8]) -> [Vec<Record>; 4] {

@@ -236,7 +236,7 @@ impl Tree {
                 Expr::Dict(pairs.map(|(k, v)| (self.expr(k), self.expr(v))).collect())
             }
             30 => {
-                let [a, b, c] = self.exprs(at).try_into().ok().expect("three");
+                let [a, b, c]: [AstExpr; 3] = self.exprs(at).try_into().ok().expect("three");
                 Expr::If(Box::new((a, b, c)))
             }
             k @ (31 | 32) => Expr::Op(

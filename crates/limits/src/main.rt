@@ -1,7 +1,6 @@
 // Judges files at each limit of document 01 and one past it, and files that break one rule, or two at once.
 // Standard input has a case after the other: a label's length (a byte), the label, the file's length (32 bits), the file.
 // tools/limits.py writes them; stdout beside this program's src/ has what must be printed.
-ghost use Rattle.io.specs.Counts.{Counts};
 use libc::STDOUT_FILENO;
 use tree::Facts;
 use tree::Judged;
@@ -41,16 +40,6 @@ fn print_judged(j: Judged) {
     text(b"\n");
 }
 
-// As many of the next n bytes as there are and as the buffer holds.
-fn take_in(buf: &mut [u8], n: usize) -> usize
-    ensures { λ r. ⌜ Counts r (now (buf .exit)) ⌝ }
-{
-    if n <= buf.len() {
-        return io::read_full(0, &mut buf[..n]);
-    }
-    io::read_full(0, buf)
-}
-
 // A label, if there is one more.
 fn label() -> bool {
     let mut head = [0u8; 1];
@@ -58,7 +47,7 @@ fn label() -> bool {
     if io::read_full(0, &mut head) < 1 {
         return false;
     }
-    let got = take_in(&mut line, tree::bytes::byte_at(&head, 0));
+    let got = input::take_in(&mut line, tree::bytes::byte_at(&head, 0));
     text(&line[..got]);
     true
 }
@@ -66,7 +55,7 @@ fn label() -> bool {
 // The next n bytes, judged.
 fn judge_next(n: usize) {
     let mut file = [0u8; 200000];
-    let got = take_in(&mut file, n);
+    let got = input::take_in(&mut file, n);
     print_judged(tree::judge(&file[..got]));
 }
 

@@ -1,0 +1,13 @@
+// Standard input, so many bytes at a time.
+ghost use Rattle.io.specs.Counts.{Counts};
+use libc::STDIN_FILENO;
+
+// As many of the next n bytes as there are and as the buffer holds.
+pub fn take_in(buf: &mut [u8], n: usize) -> usize
+    ensures { λ r. ⌜ Counts r (now (buf .exit)) ⌝ }
+{
+    if n <= buf.len() {
+        return io::read_full(STDIN_FILENO, &mut buf[..n]);
+    }
+    io::read_full(STDIN_FILENO, buf)
+}

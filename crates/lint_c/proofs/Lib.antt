@@ -1,0 +1,3 @@
+-- Laws of the words laid over a room, and what ample rooms give.
+pub mod Laws
+pub mod Ample

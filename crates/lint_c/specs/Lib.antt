@@ -1,0 +1,2 @@
+-- What the face for C hands back.
+pub mod Face

@@ -1,0 +1,175 @@
+// What the listing programs share: 01's listing of one file on standard input, and of many, each after its length.
+// No contract can say what is written, so the functions here promise to be safe and to end; the list itself is lint's.
+ghost use Prim.Native.Nat.{_+_, _≤_};
+ghost use mathlib.Core.Path.{_≡_};
+ghost use lib.ListN.{length};
+use libc::STDERR_FILENO;
+use libc::STDIN_FILENO;
+use libc::STDOUT_FILENO;
+use rules::Answer;
+use rules::Outcome;
+use rules::Refusal;
+use tree::Mode;
+
+fn text(s: &[u8]) {
+    io::write_all(STDOUT_FILENO, s);
+}
+
+fn number(n: usize) {
+    io::print_decimal(STDOUT_FILENO, n as u64);
+}
+
+// What stands after word k of a record.
+fn after(k: usize) -> u8 {
+    if k == 7 {
+        return b'\n';
+    }
+    b' '
+}
+
+// Copies s into the line from `at` on, and answers the place after it.
+fn put(line: &mut [u8], at: usize, s: &[u8]) -> usize
+    requires { ⌜ at + length (now s) ≤ length (now line) ⌝ }
+    ensures { λ r. ⌜ r ≡ at + length (now (s .entry)) ⌝ }
+{
+    let mut i = 0;
+    while i < s.len() {
+        line[at + i] = s[i];
+        i += 1;
+    }
+    at + s.len()
+}
+
+// A word's digits: no number of 32 bits has more than ten.
+fn put_number(line: &mut [u8], at: usize, word: u32) -> usize
+    requires { ⌜ at + 10 ≤ length (now line) ⌝ }
+    ensures { λ r. ⌜ r ≤ at + 10 ⌝ }
+{
+    let mut digits = [0u8; 20];
+    let got = io::decimal(word as u64, &mut digits);
+    put(line, at, &digits[..got])
+}
+
+// Word k of a record and what stands after it, from `at` on; the place after both.
+fn put_word(line: &mut [u8], at: usize, word: u32, k: usize) -> usize
+    requires { ⌜ at + 11 ≤ length (now line) ⌝ }
+    ensures { λ r. ⌜ r ≤ at + 11 ⌝ }
+{
+    let end = put_number(line, at, word);
+    line[end] = after(k);
+    end + 1
+}
+
+// A record on a line, in one write: eight words, each of at most ten digits and a byte after it.
+fn record(out: &[u32], first: usize)
+    requires { ⌜ first + 8 ≤ length (now out) ⌝ }
+{
+    let mut line = [0u8; 88];
+    let mut at = 0;
+    let mut k = 0;
+    while k < 8 {
+        at = put_word(&mut line, at, out[first + k], k);
+        k += 1;
+    }
+    text(&line[..at]);
+}
+
+// The first n records that out holds.
+fn records(out: &[u32], n: usize) {
+    let mut r = 0;
+    while r < n {
+        if out.len() / 8 <= r {
+            return;
+        }
+        record(out, 8 * r);
+        r += 1;
+    }
+}
+
+fn listed(out: &[u32], n: usize) {
+    records(out, n);
+    text(b"total ");
+    number(n);
+    text(b"\n");
+}
+
+fn refused(why: Refusal) {
+    text(b"refused ");
+    number(why.number());
+    text(b" ");
+    number(why.place());
+    text(b"\n");
+}
+
+// The listing of a file, with room for 2,048 records.
+pub fn list(t: &[u8], mode: Mode) {
+    let mut work = [0u16; 32768];
+    let mut out = [0u32; 16384];
+    let a = lint::lint(t, mode, &mut work, &mut out);
+    let o = a.outcome;
+    match o {
+        Outcome::Listed(n) => listed(&out, n),
+        Outcome::Refused(why) => refused(why),
+    }
+}
+
+// Where a read failed, as of a folder or a closed descriptor, the next read fails too; at the end it gives 0.
+fn unreadable() -> bool {
+    let mut more = [0u8; 1];
+    libc::read(STDIN_FILENO, &mut more) < 0
+}
+
+// 01's listing program but for the mode: standard input whole, at most 49,152 bytes.
+pub fn list_input(mode: Mode) {
+    let mut bytes = [0u8; 49153];
+    let got = io::read_full(STDIN_FILENO, &mut bytes);
+    if 49152 < got {
+        text(b"too long\n");
+        return;
+    }
+    if unreadable() {
+        io::write_all(STDERR_FILENO, b"standard input can't be read\n");
+        return;
+    }
+    list(&bytes[..got], mode);
+}
+
+// The highest bit of a file's length asks for strict keys.
+fn mode_of(n: usize) -> Mode {
+    if n < 2147483648 {
+        return Mode::Ordinary;
+    }
+    Mode::Strict
+}
+
+// The listing of the next file, if there is one more, then a line `--`. No valid file has more than 149,515 bytes; what
+// comes after a longer one can't be told apart from it, so it is the last.
+fn list_next() -> bool {
+    let mut head = [0u8; 4];
+    let mut bytes = [0u8; 149515];
+    if io::read_full(STDIN_FILENO, &mut head) < 4 {
+        return false;
+    }
+    let n = tree::bytes::u32_at(&head, 0);
+    let long = n % 2147483648;
+    if 149515 < long {
+        text(b"too long\n--\n");
+        return false;
+    }
+    let got = input::take_in(&mut bytes, long);
+    list(&bytes[..got], mode_of(n));
+    text(b"--\n");
+    true
+}
+
+// The listings of many files on standard input, each after its length (32 bits, the highest set for strict keys); at most
+// 1,000,000.
+pub fn list_files() {
+    let mut left: usize = 1000000;
+    while 0 < left {
+        left -= 1;
+        if !list_next() {
+            return;
+        }
+    }
+}

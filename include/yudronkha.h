@@ -1,0 +1,126 @@
+/* Yudronkha: the lint of Starlark tree files, for C and C++.
+ *
+ * Link with liblint_c.a, which `rt staticlib lint_c` writes to target/staticlib/: code for x86-64 Linux under the System V
+ * calling convention. Of other libraries it needs only memcpy, memmove and memset.
+ *
+ * Both calls are proved in their Rattle source, for every tree, every length and whatever the lent words hold: they end, write
+ * to nothing but the rooms lent to them, and answer as document 01 says. The proof covers neither the compiler's back end nor
+ * this header, which nothing compares with the source.
+ *
+ * A call keeps nothing for the next and there are no globals, so any number of threads may call at once, each with rooms of its
+ * own. A call takes no heap and makes no system call.
+ */
+#ifndef YUDRONKHA_H
+#define YUDRONKHA_H
+
+#include <stddef.h>
+#include <stdint.h>
+
+#if SIZE_MAX != 0xffffffffffffffff
+#error "yudronkha.h: the library is built for 64-bit sizes (x86-64)"
+#endif
+
+#ifdef __cplusplus
+extern "C" {
+#endif
+
+/* Sizes, in elements of each room. */
+#define YUDRONKHA_WORK_WORDS 32768   /* work room that a call needs */
+#define YUDRONKHA_RECORD_WORDS 8     /* words of one record */
+#define YUDRONKHA_RECORDS_MOST 10240 /* no valid tree has more records: with room for these, 11 is never answered */
+#define YUDRONKHA_CODES 17           /* codes are 1 to 17 */
+#define YUDRONKHA_REPORT_WORDS 18    /* a whole report: word 0, then one word for each code */
+#define YUDRONKHA_NO_VALUE 65535     /* a record's value number where it has none */
+
+/* Stack to keep free for one call, in bytes: measured, not proved. The most seen is 1,724,552, on for statements nested to depth
+ * 48. To be filled in from the measurement of the deepest trees. */
+#define YUDRONKHA_STACK_BYTES 2097152
+
+/* What a call returns: 0, or the number of the one refusal. Where several hold, the lowest number is given, at its lowest
+ * place. The place stands in report[0]. */
+enum yudronkha_number {
+    YUDRONKHA_LISTED = 0,              /* the list is written; report[0] is how many records it has, which may be 0 */
+    YUDRONKHA_REFUSED_MARK = 1,        /* under 11 bytes, or the mark is not SLT; place 0 */
+    YUDRONKHA_REFUSED_VERSION = 2,     /* version not 1; place 0 */
+    YUDRONKHA_REFUSED_COUNTS = 3,      /* nodes 0 or over 1,024; values over 512; globals over 512 and not 65535; place 0 */
+    YUDRONKHA_REFUSED_SECTIONS = 4,    /* the sections, with lengths as written, don't fill the input exactly; place 0 */
+    YUDRONKHA_REFUSED_VALUE = 5,       /* form or order of a value is wrong; place: the value */
+    YUDRONKHA_REFUSED_NODE = 6,        /* unknown kind; begin above end; last field not 0; size 0 or beyond the parent; value
+                                          number beyond the table; value missing, forbidden or of a wrong kind; place: the node */
+    YUDRONKHA_REFUSED_CHILDREN = 7,    /* the children of a node, or the root, are not as 01's list has them; place: the parent */
+    YUDRONKHA_REFUSED_DEPTH = 8,       /* depth over 48, the root being 1; place: the node */
+    YUDRONKHA_REFUSED_GLOBAL = 9,      /* a global is not a name, or not above the one before; place: its position */
+    YUDRONKHA_REFUSED_WORK_ROOM = 10,  /* work_len under YUDRONKHA_WORK_WORDS; place 0 */
+    YUDRONKHA_REFUSED_ANSWER_ROOM = 11 /* answer_len under YUDRONKHA_RECORD_WORDS a record; place: the records needed */
+};
+
+/* The code of a record, its word 0. Codes 1, 2, 3, 5, 10 and 11 have severity disabled, the others severity warning.
+ * The value, and the second and third span, are said where a record has them. */
+enum yudronkha_code {
+    /* names; value: the name */
+    YUDRONKHA_UNUSED_LOAD = 1,
+    YUDRONKHA_UNUSED_ASSIGN = 2,
+    YUDRONKHA_UNUSED_ARGUMENT = 3,
+    YUDRONKHA_USING_UNASSIGNED = 4,
+    YUDRONKHA_USING_UNDEFINED = 5,
+    YUDRONKHA_USING_MAYBE_UNDEFINED = 6,
+    /* flow */
+    YUDRONKHA_MISSING_RETURN_EXPRESSION = 7, /* value: the def's name; second: the def; third: why it wants a value */
+    YUDRONKHA_MISSING_RETURN = 8,            /* at the def; value: its name; second: why it wants a value */
+    YUDRONKHA_UNREACHABLE = 9,
+    YUDRONKHA_REDUNDANT_RETURN = 10,
+    YUDRONKHA_REDUNDANT_CONTINUE = 11,
+    YUDRONKHA_MISPLACED_LOAD = 12,
+    YUDRONKHA_NO_EFFECT = 13,
+    /* incompatible */
+    YUDRONKHA_INCOMPATIBLE_TYPE_CHECK = 14,    /* value: the type's name */
+    YUDRONKHA_DUPLICATE_TOP_LEVEL_ASSIGN = 15, /* at the later name; value: the name; second: the name as first defined */
+    /* dubious */
+    YUDRONKHA_DUPLICATE_KEY = 16,          /* at the previous equal key; value and second: the later key */
+    YUDRONKHA_IDENTIFIER_AS_STATEMENT = 17 /* value: the name */
+};
+
+/* The words of a record, by position. A second or third span that a record doesn't have is 0 0. */
+enum yudronkha_word {
+    YUDRONKHA_CODE = 0,
+    YUDRONKHA_BEGIN = 1,
+    YUDRONKHA_END = 2,
+    YUDRONKHA_VALUE = 3, /* the value number in the tree file, or YUDRONKHA_NO_VALUE */
+    YUDRONKHA_SECOND_BEGIN = 4,
+    YUDRONKHA_SECOND_END = 5,
+    YUDRONKHA_THIRD_BEGIN = 6,
+    YUDRONKHA_THIRD_END = 7
+};
+
+/* Lints a tree file: names, flow, incompatible, dubious, each pass's records after those of the one before.
+ *
+ * tree, tree_len      the file's bytes, any bytes and any number of them. Only read.
+ * work, work_len      work room, in 16-bit words; what it holds on entry doesn't matter. After 0 and after 11 its first
+ *                     YUDRONKHA_WORK_WORDS words are zero and the rest are as they were; after any other number all are.
+ * answer, answer_len  room for the records, in 32-bit words. After 0 it begins with report[0] records of
+ *                     YUDRONKHA_RECORD_WORDS words, and the words past them are as they were. A refusal writes none.
+ * report, report_len  what else is answered. report[0]: after 0 the records written, else the refusal's place, which for 11 is the
+ *                     records needed, so that a second call with that much room succeeds. report[c], for a code c of 1 to
+ *                     YUDRONKHA_CODES: how many of the records have code c; after a refusal 0. Where report_len is under
+ *                     YUDRONKHA_REPORT_WORDS the words that fit are written, and words past the report are as they were.
+ *
+ * Returns YUDRONKHA_LISTED or a refusal's number; nothing else. Lengths count elements, not bytes, and no length is an error
+ * of the caller's: a short work room is refused by 10, a short answer room by 11.
+ *
+ * What the caller owes, and no call can test: each pointer is not null, also where its length is 0, is aligned for its type
+ * (1, 2, 4 and 8 bytes), and has that many elements behind it, in all at most PTRDIFF_MAX bytes; the three rooms overlap neither
+ * each other nor the tree, and no other thread writes to any of the four during the call; YUDRONKHA_STACK_BYTES of stack are free.
+ *
+ * yudronkha_lint has ordinary keys, the rule of the Rust; yudronkha_lint_strict strict keys, in which a whole float below 2^53 is
+ * the same key as the integer of that value. Only in records of code 16 can their lists differ. */
+size_t yudronkha_lint(const uint8_t *tree, size_t tree_len, uint16_t *work, size_t work_len, uint32_t *answer,
+                      size_t answer_len, size_t *report, size_t report_len);
+
+size_t yudronkha_lint_strict(const uint8_t *tree, size_t tree_len, uint16_t *work, size_t work_len, uint32_t *answer,
+                             size_t answer_len, size_t *report, size_t report_len);
+
+#ifdef __cplusplus
+}
+#endif
+
+#endif
