@@ -111,42 +111,14 @@ def tables(sides, made, vectors, rounds):
     row("judging and reading into the Rust's tree", [None, time], [None, sides[1].count(READING, 1, heap)])
 
 
-def stack(side, emulator, made):
-    """The least stack, in steps of 4 KiB, with which a deep tree's joined call gives its answer."""
-    print("| deepest tree | nodes | stack, KiB |\n|---|--:|--:|")
-    ways = ["no statement", "if", "if-else", "for", "def", "lambda", "list comprehension", "call", "conditional"]
-    for way, file in zip(ways, files(os.path.join(made, "deep.bin"))):
-        print(f"| {way} | {nodes(file)} | {least(side, emulator, request(JOINED, 1, [file]))} |", flush=True)
-
-
-def runs(side, emulator, kib, given):
-    command = [emulator, "-s", str(kib * 1024), *side.timed[1:]]
-    return subprocess.run(command, input=given, stdout=subprocess.PIPE, stderr=subprocess.DEVNULL).returncode == 0
-
-
-def least(side, emulator, given):
-    low, high = 0, 8192
-    while high - low > 4:
-        middle = (low + high) // 8 * 4
-        if runs(side, emulator, middle, given):
-            high = middle
-        else:
-            low = middle
-    return high
-
-
 def main():
     words = argparse.ArgumentParser()
-    words.add_argument("what", choices=["tables", "stack"])
     for name in ("rattle", "rust", "emulator", "counter", "made", "vectors"):
         words.add_argument("--" + name, default="")
     words.add_argument("--rounds", type=int, default=3)
     given = words.parse_args()
     sides = [Side(p, given.emulator, given.counter, given.made) for p in (given.rattle, given.rust)]
-    if given.what == "stack":
-        stack(sides[0], given.emulator, given.made)
-    else:
-        tables(sides, given.made, given.vectors, given.rounds)
+    tables(sides, given.made, given.vectors, given.rounds)
 
 
 main()

@@ -19,7 +19,7 @@ const USAGE: &str = "usage:
   compare make [--seed S] [--from I] [--count N] [--any-order] [--damage]
                                       generated files, each after its length, on standard output
   compare sized SORT                  trees of one sort at growing numbers of nodes, each after its length;
-                                      SORT: straight, loops, dicts, names; deep: the deepest trees
+                                      SORT: straight, loops, dicts, names
   compare coverage FILES..            what files show
   compare lists FILES LISTS           the Rust beside lists written before
   compare against [--each] [--strict] [--chunk N] [--as-found] FILES.. -- PROGRAM ..
