@@ -1,7 +1,7 @@
 #!/usr/bin/env python3
 """Writes the trees of the sample scripts: examples/export.py SCRIPT.star ..
 
-Each tree goes beside its script, as SCRIPT.slt, in document 01's form. This is a helper for the samples and not the
+Each tree goes beside its script, as SCRIPT.slt, in document 01's form. This is a script for the samples and not the
 office's exporter, which is written in Rust over the crate's own parser. It parses by Python's `ast`, so it takes only
 what is the same in Starlark and Python, and refuses the rest by name. Children stand in the order of document 01's
 list; a body of one statement is that statement itself, as in 01's example of 47 bytes. Spans are byte offsets.

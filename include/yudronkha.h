@@ -5,7 +5,7 @@
  *
  * Both calls are proved in their Rattle source, for every tree, every length and whatever the lent words hold: they end, write
  * to nothing but the rooms lent to them, and answer as document 01 says. The proof covers neither the compiler's back end nor
- * this header, which nothing compares with the source.
+ * this header; runs of examples/build test both.
  *
  * A call keeps nothing for the next and there are no globals, so any number of threads may call at once, each with rooms of its
  * own. A call takes no heap and makes no system call.
@@ -32,9 +32,8 @@ extern "C" {
 #define YUDRONKHA_REPORT_WORDS 18    /* a whole report: word 0, then one word for each code */
 #define YUDRONKHA_NO_VALUE 65535     /* a record's value number where it has none */
 
-/* Stack to keep free for one call, in bytes: measured, not proved. The most seen is 1,724,552, on for statements nested to depth
- * 48. To be filled in from the measurement of the deepest trees. */
-#define YUDRONKHA_STACK_BYTES 2097152
+/* Stack to keep free for one call, in bytes: measured, not proved (docs/SPEED.md). The most seen on trees of depth 48 is MOST. */
+#define YUDRONKHA_STACK_BYTES 1048576
 
 /* What a call returns: 0, or the number of the one refusal. Where several hold, the lowest number is given, at its lowest
  * place. The place stands in report[0]. */
@@ -45,7 +44,7 @@ enum yudronkha_number {
     YUDRONKHA_REFUSED_COUNTS = 3,      /* nodes 0 or over 1,024; values over 512; globals over 512 and not 65535; place 0 */
     YUDRONKHA_REFUSED_SECTIONS = 4,    /* the sections, with lengths as written, don't fill the input exactly; place 0 */
     YUDRONKHA_REFUSED_VALUE = 5,       /* form or order of a value is wrong; place: the value */
-    YUDRONKHA_REFUSED_NODE = 6,        /* unknown kind; begin above end; last field not 0; size 0 or beyond the parent; value
+    YUDRONKHA_REFUSED_NODE = 6,        /* unknown kind; begin above end; last field not 0; size 0 or beyond the parent (node 0: the file); value
                                           number beyond the table; value missing, forbidden or of a wrong kind; place: the node */
     YUDRONKHA_REFUSED_CHILDREN = 7,    /* the children of a node, or the root, are not as 01's list has them; place: the parent */
     YUDRONKHA_REFUSED_DEPTH = 8,       /* depth over 48, the root being 1; place: the node */

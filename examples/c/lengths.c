@@ -75,7 +75,7 @@ static size_t report_word(const struct call *c, size_t k)
     return k == YUDRONKHA_NO_EFFECT || (k == YUDRONKHA_DUPLICATE_KEY && c->strict);
 }
 
-/* Every word of the three rooms, and those behind them. */
+/* Every word of work room and report, the answer room past the records and the first record's code, and the words behind them. */
 static int as_said(const struct call *c)
 {
     int cleared = c->number == YUDRONKHA_LISTED || c->number == YUDRONKHA_REFUSED_ANSWER_ROOM;

@@ -38,12 +38,12 @@ module _ (mode : Mode) (t work room : List ℕ) (a : Answer) (room′ work′ : 
   module _ (gives : Gives (lint-call mode t work room) a room′ work′) where
     -- DEMAND 1: "Every byte string handed in as a tree gets warnings or one numbered refusal from document 01. No caller has to
     -- check first. A refusal writes no warning, and the work room afterwards is as 01 says."
-    pub lint-demand1 : Warned-or-refused (lint-list mode t) no-tally work room a room′ work′
+    pub lint-demand1 : Warned-or-refused (lint-list mode t) t no-tally work room a room′ work′
     lint-demand1 = warned-or-refused (lint-list mode t) t work room no-tally a room′ work′ gives
 
     -- DEMAND 2: "On every valid tree the list is proved equal to 01's rules."
     pub lint-demand2 : (f : Facts) → judged t ≡ Valid f → 32768 ≤ length work → 8 * length (lint-list mode t) ≤ length room
-        → Lists (lint-list mode t) no-tally work room a room′ work′
+        → Lists (lint-list mode t) t no-tally work room a room′ work′
     lint-demand2 = lists (lint-list mode t) t work room no-tally a room′ work′ gives
 
     -- the records that stand in the answer room are the whole list, in its order
@@ -56,7 +56,7 @@ module _ (mode : Mode) (t work room : List ℕ) (a : Answer) (room′ work′ : 
         let v = valid-where-listed (lint-list mode t) t work room no-tally a room′ work′ gives n i in
         go lint-demand1 ∙ file-tally t (v .0) (v .1) mode ∙ ap tally-of (sym (lint-records n i))
       where
-        go : Warned-or-refused (lint-list mode t) no-tally work room a room′ work′ → a .tally ≡ raise-all (lint-list mode t) no-tally
+        go : Warned-or-refused (lint-list mode t) t no-tally work room a room′ work′ → a .tally ≡ raise-all (lint-list mode t) no-tally
         go (warned l) = l .counts
         go (refused why l) = let z : _≡_ {A = ℕ} 0 1 = cc (l .outcome, i) in absurd (omega arith)
 

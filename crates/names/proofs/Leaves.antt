@@ -15,7 +15,7 @@ use Rattle.rules.specs.Names.{same, named, Warning, warned, warn, warn-new, war
 use Rattle.rules.specs.Marks as marks
 use Rattle.rules.specs.Marks.{sets-name, spared-room, spared-level, idle-room, farewell-room, used-at, held-at}
 use Rattle.names.specs.Lists.{places}
-use Rattle.names.specs.State.{sortOf, nodeIn, usedIn, spotIn, entryIn, roomOf, outOf, no-entry, Fits}
+use Rattle.names.specs.State.{sortOf, heldOf, nodeIn, usedIn, spotIn, entryIn, roomOf, outOf, no-entry, Fits}
 use Rattle.names.specs.Words.{Lines, alikeAt, findIn, isIn, warnWords, warnCount, warnLines, lateLines, latesIn, lateOf, sparedAt, sparedIn, idleLines, idlesIn, idleOf, farewellOf}
 use Rattle.names.specs.declared.table.Like.the-variants.{Name, Spot as TheSpot}
 use Rattle.names.specs.declared.scope.Entry.{Entry}
@@ -158,7 +158,7 @@ module _ (t w : List ℕ) (xs : List Entry) (a b j : ℕ) (h : a ≤ j) (l : j <
       find-places (same (spotAt t (nodeIn w j))) (λ e. e .used) false (entryIn t w xs) a b (omega arith)
       ∙ rw (lt-ltb (findIn t w TheSpot a b (nodeIn w j)) b (omega (arith, find-self t w j a b h l)))
 
-  held-first : held-at (spotAt t (nodeIn w j)) (places (entryIn t w xs) a b) ≡ getD xs spot-place no-entry .held
+  held-first : held-at (spotAt t (nodeIn w j)) (places (entryIn t w xs) a b) ≡ heldOf (getD xs spot-place no-entry .standing)
   unfolding findIn alikeAt entryIn
   held-first =
       find-places (same (spotAt t (nodeIn w j))) (λ e. e .held) false (entryIn t w xs) a b (omega arith)
@@ -172,7 +172,7 @@ module _ (t v : List ℕ) (s : Scope) (top : Bool) (j : ℕ) (h : s .first ≤ j
   unfolding spotAt
   named-here = named-in t v (s .loose) (s .looses) (nodeIn v j) z
 
-  level-here : (top : Bool) → spared-level (underscored (tableOf t)) top (roomOf t v s) (entryIn t v (s .entries) j) ≡ sparedAt t top (getD (s .entries) p no-entry .held) (nodeIn v j)
+  level-here : (top : Bool) → spared-level (underscored (tableOf t)) top (roomOf t v s) (entryIn t v (s .entries) j) ≡ sparedAt t top (heldOf (getD (s .entries) p no-entry .standing)) (nodeIn v j)
   unfolding roomOf entryIn sparedAt spotAt
   level-here true =
       rw (assign-code (sortOf (kindAt t (nodeIn v j)))) (ap (λ (x : Bool). is-assign (sortOf (kindAt t (nodeIn v j))) && (not (underscored (tableOf t) (valueAt t (nodeIn v j))) && x))
@@ -195,7 +195,7 @@ module _ (t v : List ℕ) (s : Scope) (top : Bool) (j : ℕ) (h : s .first ≤ j
   or3 e f g = rw (e, f, g)
 
   spared-same : spared-room (underscored (tableOf t)) top (roomOf t v s) (entryIn t v (s .entries) j)
-      ≡ sparedIn t v top (getD (s .entries) p no-entry .held) (s .loose) (s .looses) p (nodeIn v j)
+      ≡ sparedIn t v top (heldOf (getD (s .entries) p no-entry .standing)) (s .loose) (s .looses) p (nodeIn v j)
   unfolding sparedIn
   spared-same =
       or3 (ap (λ (x : Spot). used-at x (roomOf t v s .entries)) entry-spot ∙ used-here) (ap (λ (x : Spot). named (x .value) (roomOf t v s .unbound)) entry-spot ∙ named-room) (level-here top)
@@ -219,7 +219,7 @@ module _ (t w : List ℕ) (s : Scope) (f : Fits w s) (top : Bool) where
   idle-step v n j o a b h ws e =
       let q = findIn t v TheSpot (s .first) (s .settings) (nodeIn v j) in
       rw (← entry-same v j o b, ← only-room t w v s f o, spared-same t v s top j a b (f .loose))
-      (idle-by v n j o h ws e (sparedIn t v top (getD (s .entries) q no-entry .held) (s .loose) (s .looses) q (nodeIn v j)))
+      (idle-by v n j o h ws e (sparedIn t v top (heldOf (getD (s .entries) q no-entry .standing)) (s .loose) (s .looses) q (nodeIn v j)))
 
   idles : (m j : ℕ) (v : List ℕ) (n : ℕ) → s .first ≤ j → j + m ≡ s .settings → Only w v → n ≤ 1024 → (ws : List Warning) → (length ws ≤ 1024 → outOf t v n ≡ ws)
       → Warns t w (idlesIn t top s v n j m) (idle-room u top (roomOf t w s) (places (entryIn t w (s .entries)) j (s .settings)) ws)

@@ -8,7 +8,6 @@ pub mod Cells
 pub mod Over
 pub mod Frames
 pub mod Sets
-pub mod Branches
 pub mod Notes
 pub mod Uses
 pub mod Leaves

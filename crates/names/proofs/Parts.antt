@@ -67,11 +67,11 @@ none-bound k x h = go (ℕ-discrete k 40) (ℕ-discrete k 43) (ℕ-discrete k 47
 pub nine-on : {k : ℕ} → 8 ≤ k → (k ≡ 8 → ⊥) → 9 ≤ k
 nine-on a b = omega arith
 
-pub twelve-off : {k : ℕ} → k < 14 → (k ≡ 12 → ⊥) → (k ≡ 13 → ⊥) → k < 12
-twelve-off a b d = omega arith
+pub eleven-off : {k : ℕ} → k < 14 → (k ≡ 12 → ⊥) → (k ≡ 13 → ⊥) → (k ≡ 11 → ⊥) → k < 11
+eleven-off a b d e = omega arith
 
-pub ten-left : {k : ℕ} → 9 ≤ k → k < 12 → (k ≡ 11 → ⊥) → (k ≡ 9 → ⊥) → k ≡ 10
-ten-left a b d e = omega arith
+pub ten-left : {k : ℕ} → 9 ≤ k → k < 11 → (k ≡ 9 → ⊥) → k ≡ 10
+ten-left a b d = omega arith
 
 -- siblings
 module _ (t : List ℕ) (f : ℕ) where

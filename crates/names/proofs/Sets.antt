@@ -12,12 +12,13 @@ use lib.Seq.{getD-set-same}
 use borrow.Author.Tests.{ltb-true, ltb-false, eq-eqb}
 use Rattle.tree.specs.Bytes.{kindAt, valueAt}
 use Rattle.tree.specs.Forest.{spotAt}
+use Rattle.rules.specs.Names.{same}
 use Rattle.rules.specs.Marks as marks
 use Rattle.rules.specs.Marks.{House, has-entry, set-entry, set-room, reset, resets, total, settings-in}
 use Rattle.names.specs.Lists.{places}
-use Rattle.names.specs.State.{sortOf, nodeIn, baseIn, entryIn, roomOf, houseOf, no-entry, Fits, Inside, Kept}
+use Rattle.names.specs.State.{sortOf, levelOf, heldOf, nodeIn, baseIn, entryIn, roomOf, houseOf, no-entry, Fits, Inside, Kept}
 use Rattle.names.specs.Does.{Room-for, Does}
-use Rattle.names.specs.Words.{alikeAt, findIn, isIn, settingAt, resetOf, resetsIn, with-settings, addedWords, addedScope, settledScope, setScope}
+use Rattle.names.specs.Words.{alikeAt, findIn, isIn, settingAt, sure-entry, resetOf, resetsIn, with-settings, addedWords, addedScope, settledScope, setScope}
 use Rattle.names.specs.declared.table.Like.the-variants.{Setting as TheSetting}
 use Rattle.names.specs.declared.scope.Entry.{Entry}
 use Rattle.names.specs.declared.scope.Scope.{Scope}
@@ -31,6 +32,14 @@ use Rattle.names.proofs.Steps.{added-there, added-new, added-full}
 abbrev pub set-house : List ℕ → ℕ → House → House
 set-house t i m = record { here = set-room (sortOf (kindAt t i)) (spotAt t i) (m .here); above = m .above; out = m .out }
 
+sure-level : (b : Bool) → levelOf (sure-entry b .standing) ≡ marks.Definitely
+sure-level false = refl
+sure-level true = refl
+
+sure-held : (b : Bool) → heldOf (sure-entry b .standing) ≡ b
+sure-held false = refl
+sure-held true = refl
+
 -- an entry after a reset
 reset-entry : (t w : List ℕ) (es fs : List Entry) (i k : ℕ) → getD fs k no-entry ≡ resetOf t (getD es k no-entry) (nodeIn w k) i
     → entryIn t w fs k ≡ reset (spotAt t i) (entryIn t w es k)
@@ -38,7 +47,7 @@ unfolding entryIn resetOf alikeAt spotAt
 reset-entry t w es fs i k e = go (eqb (valueAt t (nodeIn w k)) (valueAt t i)) refl
   where
     go : (x : Bool) → eqb (valueAt t (nodeIn w k)) (valueAt t i) ≡ x → entryIn t w fs k ≡ reset (spotAt t i) (entryIn t w es k)
-    go true q = rw (e, q)
+    go true q = rw (e, q, sure-level (same (spotAt t i) (spotAt t (nodeIn w k))), sure-held (same (spotAt t i) (spotAt t (nodeIn w k))))
     go false q = rw (e, q)
 
 has-in : (t w : List ℕ) (es : List Entry) (a b i : ℕ) → a ≤ b → has-entry (settingAt t i) (places (entryIn t w es) a b) ≡ isIn t w TheSetting a b i

@@ -11,12 +11,12 @@ use Rattle.rules.specs.Names as rules
 use Rattle.rules.specs.Marks as marks
 use Rattle.rules.specs.Marks.{mid, notes, restore, merge, join-level}
 use Rattle.names.specs.Lists.{placesIn, places}
-use Rattle.names.specs.State.{abortOf, levelOf, no-entry, entryIn, roomOf, roomsOf, outOf, houseOf, Fits, Kept}
+use Rattle.names.specs.State.{abortOf, levelOf, heldOf, no-entry, entryIn, roomOf, roomsOf, outOf, houseOf, Fits, Kept}
 use Rattle.names.specs.Words.{presentOf, sureOf, abortsOf, smallerOf, standingIf, joinStanding, joinedOf, mergesIn, mergedScope, joinScope, backScope}
 use Rattle.names.specs.declared.scope.Abort.{Abort}
 use Rattle.names.specs.declared.scope.Abort.the-variants.{Runs, Loop, Function}
 use Rattle.names.specs.declared.scope.Standing.{Standing}
-use Rattle.names.specs.declared.scope.Standing.the-variants.{Absent, Maybe, Definitely}
+use Rattle.names.specs.declared.scope.Standing.the-variants.{Absent, Maybe, Definitely, HeldAbsent, HeldMaybe, HeldDefinitely}
 use Rattle.names.specs.declared.scope.Entry.{Entry}
 use Rattle.names.specs.declared.scope.Scope.{Scope}
 use Rattle.names.proofs.Methods.{both}
@@ -93,10 +93,21 @@ module _ (a b : Bool) (os : List Entry) where
           ∙ rw q (getD-set-same es j (joinedOf a b (getD os j no-entry) (getD es j no-entry)) no-entry (omega arith))
       go (no q) f = f q ∙ ap (joinedOf a b (getD os k no-entry)) (getD-set-other es j k (joinedOf a b (getD os j no-entry) (getD es j no-entry)) no-entry q)
 
-level-if-same : (p q : Bool) → levelOf (standingIf p q) ≡ marks.level-if p q
-level-if-same false q = refl
-level-if-same true true = refl
-level-if-same true false = refl
+level-if-same : (h p q : Bool) → levelOf (standingIf h p q) ≡ marks.level-if p q
+level-if-same false false q = refl
+level-if-same false true true = refl
+level-if-same false true false = refl
+level-if-same true false q = refl
+level-if-same true true true = refl
+level-if-same true true false = refl
+
+held-if-same : (h p q : Bool) → heldOf (standingIf h p q) ≡ h
+held-if-same false false q = refl
+held-if-same false true true = refl
+held-if-same false true false = refl
+held-if-same true false q = refl
+held-if-same true true true = refl
+held-if-same true true false = refl
 
 aborts-same : (a : Abort) → abortsOf a ≡ rules.aborts (abortOf a)
 aborts-same Runs = refl
@@ -107,11 +118,17 @@ has-same : (x : Standing) → presentOf x ≡ marks.has-level (levelOf x)
 has-same Absent = refl
 has-same Maybe = refl
 has-same Definitely = refl
+has-same HeldAbsent = refl
+has-same HeldMaybe = refl
+has-same HeldDefinitely = refl
 
 sure-same : (x : Standing) → sureOf x ≡ marks.sure-level (levelOf x)
 sure-same Absent = refl
 sure-same Maybe = refl
 sure-same Definitely = refl
+sure-same HeldAbsent = refl
+sure-same HeldMaybe = refl
+sure-same HeldDefinitely = refl
 
 smaller-same : (a b : Abort) → abortOf (smallerOf a b) ≡ rules.smaller (abortOf a) (abortOf b)
 smaller-same Runs b = refl
@@ -120,9 +137,9 @@ smaller-same Loop Loop = refl
 smaller-same Loop Function = refl
 smaller-same Function b = refl
 
-join-same : (a b : Abort) (x y : Standing) → levelOf (joinStanding (abortsOf a) (abortsOf b) x y) ≡ join-level (abortOf a) (abortOf b) (levelOf x) (levelOf y)
-join-same a b x y =
-    level-if-same (presentOf x || presentOf y) (rules.join-sure (abortsOf a) (abortsOf b) (sureOf x) (sureOf y))
+join-same : (h : Bool) (a b : Abort) (x y : Standing) → levelOf (joinStanding h (abortsOf a) (abortsOf b) x y) ≡ join-level (abortOf a) (abortOf b) (levelOf x) (levelOf y)
+join-same h a b x y =
+    level-if-same h (presentOf x || presentOf y) (rules.join-sure (abortsOf a) (abortsOf b) (sureOf x) (sureOf y))
     ∙ cc (has-same x, has-same y, aborts-same a, aborts-same b, sure-same x, sure-same y)
 
 pub join-fits : {x : List ℕ} (one two : Scope) → Fits x two → Fits x (joinScope one two)
@@ -154,12 +171,19 @@ module _ (t v x : List ℕ) (A B : Abort) (os es ms : List Entry) where
         sort = entryIn t x es j .sort;
         spot = entryIn t x es j .spot;
         used = entryIn t x es j .used;
-        held = p .held || entryIn t x es j .held;
+        held = heldOf (p .standing) || entryIn t x es j .held;
         level = join-level (abortOf A) (abortOf B) (levelOf (p .standing)) (entryIn t x es j .level);
       }
       ≡ entryIn t x ms j
   unfolding entryIn
-  joined-entry p j h = rw (h, join-same A B (p .standing) (getD es j no-entry .standing))
+  joined-entry p j h =
+      let x = p .standing in
+      let y = getD es j no-entry .standing in
+      rw (
+        h,
+        join-same (heldOf x || heldOf y) A B x y,
+        held-if-same (heldOf x || heldOf y) (presentOf x || presentOf y) (rules.join-sure (abortsOf A) (abortsOf B) (sureOf x) (sureOf y)),
+      )
 
   merges : (n m j : ℕ) → m ≤ n → ((k : ℕ) → j + m ≤ k → getD os k no-entry ≡ no-entry)
       → ((k : ℕ) → j ≤ k → k < j + n → getD ms k no-entry ≡ joinedOf (abortsOf A) (abortsOf B) (getD os k no-entry) (getD es k no-entry))

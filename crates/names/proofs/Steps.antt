@@ -12,7 +12,7 @@ use Rattle.tree.specs.Bytes.{pick, kindAt, valueAt}
 use Rattle.tree.specs.Table.{tableOf, underscored, is-global}
 use Rattle.rules.specs.Order.{Sort}
 use Rattle.rules.specs.Names.{unused}
-use Rattle.names.specs.State.{sortOf, no-entry, nodeIn, baseIn}
+use Rattle.names.specs.State.{sortOf, heldOf, no-entry, nodeIn, baseIn}
 use Rattle.names.specs.Words.{alikeAt, findIn, isIn, joinWords, joinEnd, warnWords, warnCount, warnLines, Lines, resetOf, resetsIn, with-settings, with-warnings, addedWords, addedScope, markWords, marksIn, marksOf, standingIn, presentOf, sureOf, outwardIn, joinedOf, mergesIn, lateLines, latesIn, sparedAt, sparedIn, idleLines, idlesIn, passLines, passesIn, unknownLines, unknownsIn, takenScope}
 use Rattle.names.specs.declared.table.Like.the-variants.{Name, Spot, Setting as TheSetting}
 use Rattle.names.specs.declared.scope.Standing.{Standing}
@@ -79,7 +79,7 @@ unfolding marksOf marksIn
 marks-end t es i w j m h = let e : m - j ≡ 0 = omega arith in rw e
 
 pub marks-next : (t : List ℕ) (es : List Entry) (i : ℕ) (w : List ℕ) (j m : ℕ) → j < m
-    → marksOf t es i w j m ≡ marksOf t es i (markWords t (getD es j no-entry .held) w j i) (j + 1) m
+    → marksOf t es i w j m ≡ marksOf t es i (markWords t (heldOf (getD es j no-entry .standing)) w j i) (j + 1) m
 unfolding marksOf marksIn
 marks-next t es i w j m h = rw (less-one j m h, marksIn)
 
@@ -122,7 +122,7 @@ unknowns-next t a b w n k m h = rw (less-one k m h, unknownsIn)
 -- what one idle setting warns
 abbrev pub idleHere : List ℕ → Bool → Scope → List ℕ → ℕ → ℕ → Lines
 idleHere t top s w n i =
-    idleLines t (sparedIn t w top (getD (s .entries) (findIn t w Spot (s .first) (s .settings) i) no-entry .held) (s .loose) (s .looses) (findIn t w Spot (s .first) (s .settings) i) i) w n i
+    idleLines t (sparedIn t w top (heldOf (getD (s .entries) (findIn t w Spot (s .first) (s .settings) i) no-entry .standing)) (s .loose) (s .looses) (findIn t w Spot (s .first) (s .settings) i) i) w n i
 
 pub idles-end : (t : List ℕ) (top : Bool) (s : Scope) (w : List ℕ) (n j m : ℕ) → m ≤ j → idlesIn t top s w n j (m - j) ≡ record { words = w; count = n }
 unfolding idlesIn

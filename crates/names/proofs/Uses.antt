@@ -16,12 +16,12 @@ use Rattle.rules.specs.Names.{Found, nowhere, surely, perhaps, warn}
 use Rattle.rules.specs.Marks as marks
 use Rattle.rules.specs.Marks.{House, level-at, mark-room, use-level, look-out, look-step, Looked}
 use Rattle.names.specs.Lists.{places, seek}
-use Rattle.names.specs.State.{levelOf, nodeIn, usedIn, baseIn, entryIn, roomOf, roomsOf, outOf, houseOf, no-entry, Fits, Inside, Kept}
+use Rattle.names.specs.State.{levelOf, heldOf, nodeIn, usedIn, baseIn, entryIn, roomOf, roomsOf, outOf, houseOf, no-entry, Fits, Inside, Kept}
 use Rattle.names.specs.Does.{Room-for, Does}
 use Rattle.names.specs.Words.{alikeAt, findIn, markWords, marksIn, marksOf, standingIn, presentOf, sureOf, outwardIn, outwardOf, with-warnings, warnWords, warnCount, takenWords, takenScope, cannotWords, cannotScope, unbindsWords, unbindsScope, awayWords, awayScope, usedWords, usedScope}
 use Rattle.names.specs.declared.table.Like.the-variants.{Name}
 use Rattle.names.specs.declared.scope.Standing.{Standing}
-use Rattle.names.specs.declared.scope.Standing.the-variants.{Absent, Maybe, Definitely}
+use Rattle.names.specs.declared.scope.Standing.the-variants.{Absent, Maybe, Definitely, HeldAbsent, HeldMaybe, HeldDefinitely}
 use Rattle.names.specs.declared.scope.Entry.{Entry}
 use Rattle.names.specs.declared.scope.Scope.{Scope}
 use Rattle.names.proofs.Lists.{places-none, agree}
@@ -81,32 +81,32 @@ module _ (t : List ℕ) (i : ℕ) where
     unfolding marksIn
     marksIn-else zero j w k h = refl
     marksIn-else (suc n) j w k h =
-        marksIn-else n (j + 1) (markWords t (getD es j no-entry .held) w j i) k (λ x p q. h x (omega arith) (omega arith))
-        ∙ mark-else (getD es j no-entry .held) w j k (h j (omega arith) (omega arith))
+        marksIn-else n (j + 1) (markWords t (heldOf (getD es j no-entry .standing)) w j i) k (λ x p q. h x (omega arith) (omega arith))
+        ∙ mark-else (heldOf (getD es j no-entry .standing)) w j k (h j (omega arith) (omega arith))
 
     marksIn-length : (n j : ℕ) (w : List ℕ) → length (marksIn t es i w j n) ≡ length w
     unfolding marksIn
     marksIn-length zero j w = refl
-    marksIn-length (suc n) j w = marksIn-length n (j + 1) (markWords t (getD es j no-entry .held) w j i) ∙ mark-length (getD es j no-entry .held) w j
+    marksIn-length (suc n) j w = marksIn-length n (j + 1) (markWords t (heldOf (getD es j no-entry .standing)) w j i) ∙ mark-length (heldOf (getD es j no-entry .standing)) w j
 
     marksIn-at : (n j : ℕ) (w : List ℕ) (k : ℕ) → j ≤ k → k < j + n → j + n ≤ 1024 → 2048 ≤ length w
-        → eqb (usedIn (marksIn t es i w j n) k) 1 ≡ (eqb (usedIn w k) 1 || (eqb (valueAt t i) (valueAt t (nodeIn w k)) && getD es k no-entry .held))
+        → eqb (usedIn (marksIn t es i w j n) k) 1 ≡ (eqb (usedIn w k) 1 || (eqb (valueAt t i) (valueAt t (nodeIn w k)) && heldOf (getD es k no-entry .standing)))
     unfolding marksIn
     marksIn-at zero j w k a b c d = absurd (omega arith)
     marksIn-at (suc n) j w k a b c d =
-        go (decLt j k) (λ h. marksIn-at n (j + 1) (markWords t (getD es j no-entry .held) w j i) k (omega arith) (omega arith) (omega arith)
-        (omega (arith, mark-length (getD es j no-entry .held) w j)))
+        go (decLt j k) (λ h. marksIn-at n (j + 1) (markWords t (heldOf (getD es j no-entry .standing)) w j i) k (omega arith) (omega arith) (omega arith)
+        (omega (arith, mark-length (heldOf (getD es j no-entry .standing)) w j)))
       where
         go : Dec (j < k)
-            → (j < k → eqb (usedIn (marksIn t es i (markWords t (getD es j no-entry .held) w j i) (j + 1) n) k) 1
-            ≡ (eqb (usedIn (markWords t (getD es j no-entry .held) w j i) k) 1
-            || (eqb (valueAt t i) (valueAt t (nodeIn (markWords t (getD es j no-entry .held) w j i) k)) && getD es k no-entry .held)))
-            → eqb (usedIn (marksIn t es i w j (suc n)) k) 1 ≡ (eqb (usedIn w k) 1 || (eqb (valueAt t i) (valueAt t (nodeIn w k)) && getD es k no-entry .held))
-        go (yes h) ih = ih h ∙ rw (mark-else (getD es j no-entry .held) w j (1024 + k) (omega arith), mark-else (getD es j no-entry .held) w j k (omega arith))
+            → (j < k → eqb (usedIn (marksIn t es i (markWords t (heldOf (getD es j no-entry .standing)) w j i) (j + 1) n) k) 1
+            ≡ (eqb (usedIn (markWords t (heldOf (getD es j no-entry .standing)) w j i) k) 1
+            || (eqb (valueAt t i) (valueAt t (nodeIn (markWords t (heldOf (getD es j no-entry .standing)) w j i) k)) && heldOf (getD es k no-entry .standing))))
+            → eqb (usedIn (marksIn t es i w j (suc n)) k) 1 ≡ (eqb (usedIn w k) 1 || (eqb (valueAt t i) (valueAt t (nodeIn w k)) && heldOf (getD es k no-entry .standing)))
+        go (yes h) ih = ih h ∙ rw (mark-else (heldOf (getD es j no-entry .standing)) w j (1024 + k) (omega arith), mark-else (heldOf (getD es j no-entry .standing)) w j k (omega arith))
         go (no h) ih =
             let z : j ≡ k = omega arith in
-            rw (← z) (ap (λ (x : ℕ). eqb x 1) (marksIn-else n (j + 1) (markWords t (getD es j no-entry .held) w j i) (1024 + j) (λ x p q y. omega arith))
-            ∙ mark-at (getD es j no-entry .held) w j (omega arith))
+            rw (← z) (ap (λ (x : ℕ). eqb x 1) (marksIn-else n (j + 1) (markWords t (heldOf (getD es j no-entry .standing)) w j i) (1024 + j) (λ x p q y. omega arith))
+            ∙ mark-at (heldOf (getD es j no-entry .standing)) w j (omega arith))
 
     -- the words v after the marks
     marks-else : (w : List ℕ) (a b k : ℕ) → ((x : ℕ) → a ≤ x → x < b → k ≡ 1024 + x → ⊥) → getD (marksOf t es i w a b) k 0 ≡ getD w k 0
@@ -214,24 +214,41 @@ module _ (t w : List ℕ) (i : ℕ) (s : Scope) (f : Fits w s) where
       }
 
   -- a use of a name that has a standing in the innermost scope
-  taken-does : (st : Standing) → presentOf st ≡ true
-      → Does t (λ m. Room-for (use-level (spotAt t i) m (levelOf st))) (λ m. use-level (spotAt t i) m (levelOf st)) w s
+  abbrev Taken : Standing → Type 0
+  Taken st =
+      Does t (λ m. Room-for (use-level (spotAt t i) m (levelOf st))) (λ m. use-level (spotAt t i) m (levelOf st)) w s
       (takenWords t w s (s .first) (s .settings) i st) (takenScope t w s (s .first) (s .settings) i st)
+
+  taken-maybe : Taken Maybe
   unfolding takenWords takenScope spotAt
-  taken-does Absent e = let z : _≡_ {A = ℕ} 0 1 = cc in absurd (omega arith)
-  taken-does Maybe e =
+  taken-maybe =
       let d = does-then t w (marksOf t (s .entries) i w (s .first) (s .settings)) (warnWords t (marksOf t (s .entries) i w (s .first) (s .settings)) (s .warnings) 6 i) s s
       (with-warnings (warnCount t (marksOf t (s .entries) i w (s .first) (s .settings)) (s .warnings) i) s) (λ m. Unit {0}) (λ m. length (warn 6 (spotAt t i) (m .out)) ≤ 1024)
       (mark-house (valueAt t i)) (warn-house 6 (spotAt t i)) mark-does
       (warn-does t (marksOf t (s .entries) i w (s .first) (s .settings)) s 6 i (mark-does .fits)) in
       record { fits = d .fits; kept = d .kept; house = λ outer p q. d .house outer p (tt, q .3) }
-  taken-does Definitely e = record { fits = mark-does .fits; kept = mark-does .kept; house = λ outer p q. mark-does .house outer p tt }
+
+  taken-surely : Taken Definitely
+  unfolding takenWords takenScope spotAt
+  taken-surely = record { fits = mark-does .fits; kept = mark-does .kept; house = λ outer p q. mark-does .house outer p tt }
+
+  taken-does : (st : Standing) → presentOf st ≡ true → Taken st
+  unfolding takenWords takenScope
+  taken-does Absent e = let z : _≡_ {A = ℕ} 0 1 = cc in absurd (omega arith)
+  taken-does Maybe e = taken-maybe
+  taken-does Definitely e = taken-surely
+  taken-does HeldAbsent e = let z : _≡_ {A = ℕ} 0 1 = cc in absurd (omega arith)
+  taken-does HeldMaybe e = taken-maybe
+  taken-does HeldDefinitely e = taken-surely
 
 -- the scopes outside
 abbrev foundOf : Standing → Found
 foundOf Absent = nowhere
 foundOf Maybe = perhaps
 foundOf Definitely = surely
+foundOf HeldAbsent = nowhere
+foundOf HeldMaybe = perhaps
+foundOf HeldDefinitely = surely
 
 module _ (t w : List ℕ) (i : ℕ) (es : List Entry) where
   -- the scopes outer lie below place b, and es has their entries
@@ -315,6 +332,9 @@ module _ (t w : List ℕ) (i : ℕ) (es : List Entry) where
       go Absent e p r q = let z : _≡_ {A = ℕ} 0 1 = cc in absurd (omega arith)
       go Maybe e p r q = rw (e, r, q)
       go Definitely e p r q = rw (e, r, q)
+      go HeldAbsent e p r q = let z : _≡_ {A = ℕ} 0 1 = cc in absurd (omega arith)
+      go HeldMaybe e p r q = rw (e, r, q)
+      go HeldDefinitely e p r q = rw (e, r, q)
 
   sought : (outer : List Scope) (b B : ℕ) → Under outer b → outwardIn t w es i b b ≡ B → No-where outer B ⊎ At outer b B
   unfolding roomsOf
@@ -332,6 +352,9 @@ module _ (t w : List ℕ) (i : ℕ) (es : List Entry) where
       absent Absent p = refl
       absent Maybe p = let z : _≡_ {A = ℕ} 0 1 = cc in absurd (omega arith)
       absent Definitely p = let z : _≡_ {A = ℕ} 0 1 = cc in absurd (omega arith)
+      absent HeldAbsent p = refl
+      absent HeldMaybe p = let z : _≡_ {A = ℕ} 0 1 = cc in absurd (omega arith)
+      absent HeldDefinitely p = let z : _≡_ {A = ℕ} 0 1 = cc in absurd (omega arith)
 
       base-is : o .first < o .settings → baseIn w (o .settings - 1) ≡ o .first
       base-is l = f .own (o .settings - 1) (omega arith) (omega arith)
@@ -440,11 +463,17 @@ module _ (t w : List ℕ) (s : Scope) (i : ℕ) (f : Fits w s) where
     definite Absent e = let z : _≡_ {A = ℕ} 0 1 = cc in absurd (omega arith)
     definite Maybe e = let z : _≡_ {A = ℕ} 0 1 = cc in absurd (omega arith)
     definite Definitely e = refl
+    definite HeldAbsent e = let z : _≡_ {A = ℕ} 0 1 = cc in absurd (omega arith)
+    definite HeldMaybe e = let z : _≡_ {A = ℕ} 0 1 = cc in absurd (omega arith)
+    definite HeldDefinitely e = refl
 
     unsure : (x : Standing) → presentOf x ≡ true → sureOf x ≡ false → foundOf x ≡ perhaps
     unsure Absent p e = let z : _≡_ {A = ℕ} 0 1 = cc in absurd (omega arith)
     unsure Maybe p e = refl
     unsure Definitely p e = let z : _≡_ {A = ℕ} 0 1 = cc in absurd (omega arith)
+    unsure HeldAbsent p e = let z : _≡_ {A = ℕ} 0 1 = cc in absurd (omega arith)
+    unsure HeldMaybe p e = refl
+    unsure HeldDefinitely p e = let z : _≡_ {A = ℕ} 0 1 = cc in absurd (omega arith)
 
     surely-does : sureOf st ≡ true → Away (cannotWords t (marked low base small) s i) (cannotScope t (marked low base small) s i)
     unfolding use-outside houseOf
@@ -514,6 +543,9 @@ module _ (t w : List ℕ) (s : Scope) (i : ℕ) (f : Fits w s) where
       absent Absent p = refl
       absent Maybe p = let z : _≡_ {A = ℕ} 0 1 = cc in absurd (omega arith)
       absent Definitely p = let z : _≡_ {A = ℕ} 0 1 = cc in absurd (omega arith)
+      absent HeldAbsent p = refl
+      absent HeldMaybe p = let z : _≡_ {A = ℕ} 0 1 = cc in absurd (omega arith)
+      absent HeldDefinitely p = let z : _≡_ {A = ℕ} 0 1 = cc in absurd (omega arith)
 
       go : (x : Bool) → presentOf own ≡ x → Does t (λ m. Room-for (use-house m)) use-house w s (usedWords t w s i) (usedScope t w s i)
       go true e =

@@ -1,7 +1,7 @@
 -- What a scope state and the words of the work room stand for: the house of rules' Marks. Assumes nothing.
 use Prim.Native.Nat.{ℕ, _+_, _≤_, _<_}
 use mathlib.Core.Path.{_≡_}
-use mathlib.Core.Bool.{false}
+use mathlib.Core.Bool.{Bool, true, false}
 use mathlib.Core.List.{List, [], _∷_}
 use lib.Dec.{eqb}
 use lib.ListN.{length, getD}
@@ -16,7 +16,7 @@ use Rattle.names.specs.Lists.{places}
 use Rattle.names.specs.declared.scope.Abort.{Abort}
 use Rattle.names.specs.declared.scope.Abort.the-variants.{Runs, Loop, Function}
 use Rattle.names.specs.declared.scope.Standing.{Standing}
-use Rattle.names.specs.declared.scope.Standing.the-variants.{Absent, Maybe, Definitely}
+use Rattle.names.specs.declared.scope.Standing.the-variants.{Absent, Maybe, Definitely, HeldAbsent, HeldMaybe, HeldDefinitely}
 use Rattle.names.specs.declared.scope.Entry.{Entry}
 use Rattle.names.specs.declared.scope.Scope.{Scope}
 
@@ -29,6 +29,17 @@ abbrev pub levelOf : Standing → marks.Level
 levelOf Absent = marks.Absent
 levelOf Maybe = marks.Maybe
 levelOf Definitely = marks.Definitely
+levelOf HeldAbsent = marks.Absent
+levelOf HeldMaybe = marks.Maybe
+levelOf HeldDefinitely = marks.Definitely
+
+abbrev pub heldOf : Standing → Bool
+heldOf Absent = false
+heldOf Maybe = false
+heldOf Definitely = false
+heldOf HeldAbsent = true
+heldOf HeldMaybe = true
+heldOf HeldDefinitely = true
 
 -- the sort of a setting by its node's kind: a parameter, a loaded name, else a target's name
 unfoldable pub sortOf : ℕ → Sort
@@ -36,7 +47,7 @@ sortOf k = pick (eqb k 47) Sort.load (pick (eqb k 43) Sort.argument Sort.assign)
 
 -- an entry that is not among its name's spans, the name absent
 abbrev pub no-entry : Entry
-no-entry = record { held = false; standing = Absent }
+no-entry = record { standing = Absent }
 
 -- the node, the used mark and the scope's first place of the setting at a place; warnings: the node and the code
 abbrev pub nodeIn : List ℕ → ℕ → ℕ
@@ -57,7 +68,7 @@ entryIn t w es k =
       sort = sortOf (kindAt t (getD w k 0));
       spot = spotAt t (getD w k 0);
       used = eqb (usedIn w k) 1;
-      held = getD es k no-entry .held;
+      held = heldOf (getD es k no-entry .standing);
       level = levelOf (getD es k no-entry .standing);
     }
 

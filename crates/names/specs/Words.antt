@@ -11,13 +11,13 @@ use Rattle.rules.specs.Names.{same, unused, Setting}
 use Rattle.rules.specs.Names as rules
 use Rattle.rules.specs.Marks.{same-setting}
 use Rattle.names.specs.Lists.{seek}
-use Rattle.names.specs.State.{sortOf, no-entry, nodeIn, usedIn, baseIn}
+use Rattle.names.specs.State.{sortOf, heldOf, no-entry, nodeIn, usedIn, baseIn}
 use Rattle.names.specs.declared.table.Like.{Like}
 use Rattle.names.specs.declared.table.Like.the-variants.{Name, Spot, Setting as TheSetting}
 use Rattle.names.specs.declared.scope.Abort.{Abort}
 use Rattle.names.specs.declared.scope.Abort.the-variants.{Runs, Loop, Function}
 use Rattle.names.specs.declared.scope.Standing.{Standing}
-use Rattle.names.specs.declared.scope.Standing.the-variants.{Absent, Maybe, Definitely}
+use Rattle.names.specs.declared.scope.Standing.the-variants.{Absent, Maybe, Definitely, HeldAbsent, HeldMaybe, HeldDefinitely}
 use Rattle.names.specs.declared.scope.Entry.{Entry}
 use Rattle.names.specs.declared.scope.Scope.{Scope}
 
@@ -59,9 +59,17 @@ pub record Lines : Type 0 where
 unfoldable pub warnLines : List ℕ → List ℕ → ℕ → ℕ → ℕ → Lines
 warnLines t w n code i = record { words = warnWords t w n code i; count = warnCount t w n i }
 
+abbrev pub standingIf : Bool → Bool → Bool → Standing
+standingIf false false s = Absent
+standingIf false true false = Maybe
+standingIf false true true = Definitely
+standingIf true false s = HeldAbsent
+standingIf true true false = HeldMaybe
+standingIf true true true = HeldDefinitely
+
 -- setting
 abbrev pub sure-entry : Bool → Entry
-sure-entry b = record { held = b; standing = Definitely }
+sure-entry b = record { standing = standingIf b true true }
 
 unfoldable pub resetOf : List ℕ → Entry → ℕ → ℕ → Entry
 resetOf t e k i = pick (alikeAt t Name k i) (sure-entry (alikeAt t Spot i k)) e
@@ -173,7 +181,7 @@ markWords t held w j i = pick (held && alikeAt t Name i (nodeIn w j)) (set w (10
 
 unfoldable pub marksIn : List ℕ → List Entry → ℕ → List ℕ → ℕ → ℕ → List ℕ
 marksIn t es i w j zero = w
-marksIn t es i w j (suc n) = marksIn t es i (markWords t (getD es j no-entry .held) w j i) (j + 1) n
+marksIn t es i w j (suc n) = marksIn t es i (markWords t (heldOf (getD es j no-entry .standing)) w j i) (j + 1) n
 
 unfoldable pub marksOf : List ℕ → List Entry → ℕ → List ℕ → ℕ → ℕ → List ℕ
 marksOf t es i w a b = marksIn t es i w a (b - a)
@@ -186,11 +194,17 @@ abbrev pub presentOf : Standing → Bool
 presentOf Absent = false
 presentOf Maybe = true
 presentOf Definitely = true
+presentOf HeldAbsent = false
+presentOf HeldMaybe = true
+presentOf HeldDefinitely = true
 
 abbrev pub sureOf : Standing → Bool
 sureOf Absent = false
 sureOf Maybe = false
 sureOf Definitely = true
+sureOf HeldAbsent = false
+sureOf HeldMaybe = false
+sureOf HeldDefinitely = true
 
 -- where the settings of the nearest scope end that lies below place b and has a standing for node i's name, or 0; n: at least as many as scopes
 unfoldable pub outwardIn : List ℕ → List ℕ → List Entry → ℕ → ℕ → ℕ → ℕ
@@ -225,16 +239,11 @@ smallerOf Loop Loop = Loop
 smallerOf Loop Function = Loop
 smallerOf Function b = b
 
-abbrev pub standingIf : Bool → Bool → Standing
-standingIf false b = Absent
-standingIf true true = Definitely
-standingIf true false = Maybe
-
-abbrev pub joinStanding : Bool → Bool → Standing → Standing → Standing
-joinStanding a b x y = standingIf (presentOf x || presentOf y) (rules.join-sure a b (sureOf x) (sureOf y))
+abbrev pub joinStanding : Bool → Bool → Bool → Standing → Standing → Standing
+joinStanding h a b x y = standingIf h (presentOf x || presentOf y) (rules.join-sure a b (sureOf x) (sureOf y))
 
 abbrev pub joinedOf : Bool → Bool → Entry → Entry → Entry
-joinedOf a b p q = record { held = p .held || q .held; standing = joinStanding a b (p .standing) (q .standing) }
+joinedOf a b p q = record { standing = joinStanding (heldOf (p .standing) || heldOf (q .standing)) a b (p .standing) (q .standing) }
 
 unfoldable pub mergesIn : Bool → Bool → List Entry → List Entry → ℕ → ℕ → List Entry
 mergesIn a b os es j zero = es
@@ -287,7 +296,7 @@ unfoldable pub idlesIn : List ℕ → Bool → Scope → List ℕ → ℕ → �
 idlesIn t top s w n j zero = record { words = w; count = n }
 idlesIn t top s w n j (suc m) =
     let p = findIn t w Spot (s .first) (s .settings) (nodeIn w j) in
-    let l = idleLines t (sparedIn t w top (getD (s .entries) p no-entry .held) (s .loose) (s .looses) p (nodeIn w j)) w n (nodeIn w j) in
+    let l = idleLines t (sparedIn t w top (heldOf (getD (s .entries) p no-entry .standing)) (s .loose) (s .looses) p (nodeIn w j)) w n (nodeIn w j) in
     idlesIn t top s (l .words) (l .count) (j + 1) m
 
 unfoldable pub passLines : List ℕ → ℕ → ℕ → ℕ → List ℕ → ℕ → ℕ → Lines

@@ -4,7 +4,7 @@ ghost use mathlib.Core.Bool.{_||_};
 ghost use Prim.Native.Nat.{_+_, _-_, _<_, _≤_};
 ghost use lib.ListN.{length, getD};
 ghost use Rattle.rules.specs.Names.{join-sure};
-ghost use Rattle.names.specs.State.{no-entry, baseIn, Fits};
+ghost use Rattle.names.specs.State.{heldOf, no-entry, baseIn, Fits};
 ghost use Rattle.names.specs.Words.{presentOf, sureOf, abortsOf, unloopOf, smallerOf, standingIf, joinStanding, joinedOf, resetOf, markWords, lateLines, sparedAt, sparedIn, idleLines, passLines, unknownLines};
 ghost use Rattle.names.specs.Words.{newScope, enterScope, with-abort, with-warnings, addedWords, addedScope, settledScope, setScope, marksOf, cannotWords, cannotScope, unbindsWords, unbindsScope, warnWords, warnCount, standingIn, outwardOf};
 ghost use Rattle.names.specs.Words.{takenWords, takenScope, awayWords, awayScope, usedWords, usedScope, backScope, mergedScope, joinScope, lateOf, idleOf, passedOf, leaveWords, leaveScope, unknownOf, closedOf};
@@ -27,11 +27,15 @@ use tree::lookup::begins_underscore;
 use tree::lookup::globals_given;
 use tree::lookup::is_global;
 
-// A name's standing.
+// A name's standing; Held: the setting is among its name's spans. One enum has both, so that an entry is one byte and a scope,
+// which the walk hands on by value, half as many.
 pub enum Standing {
     Absent,
     Maybe,
     Definitely,
+    HeldAbsent,
+    HeldMaybe,
+    HeldDefinitely,
 }
 
 pub enum Abort {
@@ -40,9 +44,8 @@ pub enum Abort {
     Function,
 }
 
-// A setting: whether it is among its name's spans, and its name's standing.
+// A setting.
 pub struct Entry {
-    pub held: bool,
     pub standing: Standing,
 }
 
@@ -64,8 +67,20 @@ fn gone() -> Entry
     ensures { λ r. ⌜ r ≡ no-entry ⌝ }
 {
     Entry {
-        held: false,
         standing: Standing::Absent,
+    }
+}
+
+fn is_held(s: Standing) -> bool
+    ensures { λ r. ⌜ r ≡ heldOf s ⌝ }
+{
+    match s {
+        Standing::Absent => false,
+        Standing::Maybe => false,
+        Standing::Definitely => false,
+        Standing::HeldAbsent => true,
+        Standing::HeldMaybe => true,
+        Standing::HeldDefinitely => true,
     }
 }
 
@@ -76,6 +91,9 @@ fn present(s: Standing) -> bool
         Standing::Absent => false,
         Standing::Maybe => true,
         Standing::Definitely => true,
+        Standing::HeldAbsent => false,
+        Standing::HeldMaybe => true,
+        Standing::HeldDefinitely => true,
     }
 }
 
@@ -86,6 +104,9 @@ fn sure(s: Standing) -> bool
         Standing::Absent => false,
         Standing::Maybe => false,
         Standing::Definitely => true,
+        Standing::HeldAbsent => false,
+        Standing::HeldMaybe => false,
+        Standing::HeldDefinitely => true,
     }
 }
 
@@ -142,9 +163,18 @@ fn join_sure(a: bool, b: bool, x: bool, y: bool) -> bool
     false
 }
 
-fn standing_if(present: bool, sure: bool) -> Standing
-    ensures { λ r. ⌜ r ≡ standingIf present sure ⌝ }
+fn standing_if(held: bool, present: bool, sure: bool) -> Standing
+    ensures { λ r. ⌜ r ≡ standingIf held present sure ⌝ }
 {
+    if held {
+        if present {
+            if sure {
+                return Standing::HeldDefinitely;
+            }
+            return Standing::HeldMaybe;
+        }
+        return Standing::HeldAbsent;
+    }
     if present {
         if sure {
             return Standing::Definitely;
@@ -164,11 +194,11 @@ fn either(a: bool, b: bool) -> bool
 }
 
 // The standing after a branch whose sides have x and y, and abort or not.
-fn join_standing(a: bool, b: bool, x: Standing, y: Standing) -> Standing
-    ensures { λ r. ⌜ r ≡ joinStanding a b x y ⌝ }
+fn join_standing(held: bool, a: bool, b: bool, x: Standing, y: Standing) -> Standing
+    ensures { λ r. ⌜ r ≡ joinStanding held a b x y ⌝ }
 {
     let some = either(present(x), present(y));
-    standing_if(some, join_sure(a, b, sure(x), sure(y)))
+    standing_if(held, some, join_sure(a, b, sure(x), sure(y)))
 }
 
 // An entry after a branch.
@@ -177,9 +207,9 @@ fn joined(a: bool, b: bool, p: Entry, q: Entry) -> Entry
 {
     let x = p.standing;
     let y = q.standing;
+    let held = either(is_held(x), is_held(y));
     Entry {
-        held: either(p.held, q.held),
-        standing: join_standing(a, b, x, y),
+        standing: join_standing(held, a, b, x, y),
     }
 }
 
@@ -189,8 +219,7 @@ fn reset(t: &[u8], e: Entry, k: usize, i: usize) -> Entry
 {
     if same_name(t, k, i) {
         return Entry {
-            held: same_spot(t, i, k),
-            standing: Standing::Definitely,
+            standing: standing_if(same_spot(t, i, k), true, true),
         };
     }
     e
@@ -221,7 +250,7 @@ fn late_one(t: &[u8], w: &mut [u16], a: usize, b: usize, n: usize, i: usize) -> 
     n
 }
 
-// A setting that is not used, with no unbound use of its name, is no warning. top: at module level.
+// Whether a setting that is not used, with no unbound use of its name, is no warning all the same. top: at module level.
 fn spared_at(t: &[u8], top: bool, held: bool, i: usize) -> bool
     ensures { λ r. ⌜ r ≡ sparedAt (now (t .entry)) top held i ⌝ }
 {
@@ -424,8 +453,8 @@ impl Scope {
         let mut j = a;
         while j < b {
             let e = self.entries[j];
-            let h = e.held;
-            mark_one(t, w, h, j, i);
+            let s = e.standing;
+            mark_one(t, w, is_held(s), j, i);
             j += 1;
         }
     }
@@ -614,8 +643,8 @@ impl Scope {
             let i = word_at(w, j);
             let p = find(t, w, Like::Spot, a, b, i);
             let e = self.entries[p];
-            let h = e.held;
-            n = idle_one(t, w, spared(t, w, top, h, x, y, p, i), n, i);
+            let s = e.standing;
+            n = idle_one(t, w, spared(t, w, top, is_held(s), x, y, p, i), n, i);
             j += 1;
         }
         n

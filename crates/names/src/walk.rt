@@ -1,4 +1,5 @@
 // The walk: statements, branches, loops, expressions. d: how many for statements enclose the place; f: the number of the name fail.
+// A scope is a kilobyte and the walk recurs: where it spares a frame one, a call's result goes where its argument was.
 ghost use mathlib.Core.Path.{_≡_};
 ghost use mathlib.Core.Logic.{_≢_};
 ghost use Prim.Native.Nat.{ℕ, _+_, _<_, _≤_};
@@ -85,7 +86,7 @@ fn one(t: &[u8], c: usize, d: usize, f: usize, w: &mut [u16], s: Scope) -> Scope
     simple(t, c, k, d, f, w, s)
 }
 
-// Statements with no statement below.
+// Statements with no statement below: break, continue and pass too.
 fn simple(t: &[u8], c: usize, k: usize, d: usize, f: usize, w: &mut [u16], s: Scope) -> Scope
     requires { ⌜ (k ≡ kindAt (now t) c) × (k < 8) × Node (now t) c d × Fits (now w) s ⌝ }
     ensures { λ z. ⌜ Goes (now (t .entry)) d (nodeOf (now (t .entry)) f c) (now (w .entry)) s (now (w .exit)) z ⌝ }
@@ -102,14 +103,6 @@ fn simple(t: &[u8], c: usize, k: usize, d: usize, f: usize, w: &mut [u16], s: Sc
     if k == 7 {
         return modify(t, c, d, f, w, s);
     }
-    plain(t, c, k, d, f, w, s)
-}
-
-// Break, continue, pass.
-fn plain(t: &[u8], c: usize, k: usize, d: usize, f: usize, w: &mut [u16], s: Scope) -> Scope
-    requires { ⌜ (k ≡ kindAt (now t) c) × (k < 8) × (k ≢ 4) × (k ≢ 5) × (k ≢ 6) × (k ≢ 7) × Node (now t) c d × Fits (now w) s ⌝ }
-    ensures { λ z. ⌜ Goes (now (t .entry)) d (nodeOf (now (t .entry)) f c) (now (w .entry)) s (now (w .exit)) z ⌝ }
-{
     if k == 1 {
         return s.stop(Abort::Loop);
     }
@@ -163,8 +156,9 @@ fn target(t: &[u8], c: usize, d: usize, f: usize, w: &mut [u16], s: Scope) -> Sc
     requires { ⌜ Node (now t) c d × Fits (now w) s ⌝ }
     ensures { λ z. ⌜ Goes (now (t .entry)) d (downOf (now (t .entry)) f (wantOf 5) c ⨟ bindOf (now (t .entry)) 5 c) (now (w .entry)) s (now (w .exit)) z ⌝ }
 {
-    let a = down(t, c, 5, d, f, w, s);
-    bind(t, c, 5, w, a)
+    let mut a = down(t, c, 5, d, f, w, s);
+    a = bind(t, c, 5, w, a);
+    a
 }
 
 // Lists, if, if-else, for, def, load.
@@ -181,18 +175,18 @@ fn compound(t: &[u8], c: usize, k: usize, d: usize, f: usize, w: &mut [u16], s: 
     if k == 13 {
         return bind(t, c, 0, w, s);
     }
+    if k == 11 {
+        return rounds(t, c, d, f, w, s);
+    }
     conditional(t, c, k, d, f, w, s)
 }
 
-// A for, an if, an if-else: what is visited first has role 4.
+// An if, an if-else: what is visited first has role 4.
 fn conditional(t: &[u8], c: usize, k: usize, d: usize, f: usize, w: &mut [u16], s: Scope) -> Scope
-    requires { ⌜ (k ≡ kindAt (now t) c) × (9 ≤ k) × (k < 12) × (d ≤ c) × Node (now t) c d × Fits (now w) s ⌝ }
+    requires { ⌜ (k ≡ kindAt (now t) c) × (9 ≤ k) × (k < 11) × Node (now t) c d × Fits (now w) s ⌝ }
     ensures { λ z. ⌜ Goes (now (t .entry)) d (nodeOf (now (t .entry)) f c) (now (w .entry)) s (now (w .exit)) z ⌝ }
 {
     let a = down(t, c, 4, d, f, w, s);
-    if k == 11 {
-        return rounds(t, c, d, f, w, a);
-    }
     if k == 9 {
         return side(t, c, d, f, w, a);
     }
@@ -219,17 +213,19 @@ fn branch(t: &[u8], c: usize, d: usize, f: usize, w: &mut [u16], s: Scope) -> Sc
     b.join(a)
 }
 
-// A for's rounds: two, or one from the sixth on.
+// A for: what it goes over, then its rounds, two, or one from the sixth on. Not in conditional, whose sides would add to a for's stack.
 fn rounds(t: &[u8], c: usize, d: usize, f: usize, w: &mut [u16], s: Scope) -> Scope
-    requires { ⌜ (d ≤ c) × Node (now t) c d × Fits (now w) s ⌝ }
-    ensures { λ z. ⌜ Goes (now (t .entry)) d (loop (downOf (now (t .entry)) f (wantOf 5) c ⨟ bindOf (now (t .entry)) 5 c ⨟ downOf (now (t .entry)) f (wantOf 1) c)) (now (w .entry)) s (now (w .exit)) z ⌝ }
+    requires { ⌜ (kindAt (now t) c ≡ 11) × (d ≤ c) × Node (now t) c d × Fits (now w) s ⌝ }
+    ensures { λ z. ⌜ Goes (now (t .entry)) d (nodeOf (now (t .entry)) f c) (now (w .entry)) s (now (w .exit)) z ⌝ }
 {
     let n = d + 1;
-    let a = round(t, c, n, f, w, s);
+    let mut a = down(t, c, 4, d, f, w, s);
+    a = round(t, c, n, f, w, a);
     if 5 < n {
         return a;
     }
-    round(t, c, n, f, w, a)
+    a = round(t, c, n, f, w, a);
+    a
 }
 
 fn round(t: &[u8], c: usize, d: usize, f: usize, w: &mut [u16], s: Scope) -> Scope
@@ -297,8 +293,9 @@ fn comprehension(t: &[u8], c: usize, d: usize, f: usize, w: &mut [u16], s: Scope
     let e = c + size_at(t, c);
     let x = child_of(t, 0, c + 1, e);
     let a = over(t, c, x, d, f, w, s);
-    let b = inside(t, c, x, d, f, w, a.enter());
-    b.leave(t, w, a)
+    let mut b = inside(t, c, x, d, f, w, a.enter());
+    b = b.leave(t, w, a);
+    b
 }
 
 // The over of the comprehension c's first clause, x.

@@ -60,10 +60,13 @@ numbered (Tree why) = tree-numbered why
 numbered WorkRoom = (omega arith, omega arith)
 numbered (AnswerRoom n) = (omega arith, omega arith)
 
--- "two outcomes that satisfy it are proved equal"
+-- "two outcomes that satisfy it are proved equal": of a promise that is one equation, and of a call that runs names
+pub one-result {ℓ} : {A : Type ℓ} {x a b : A} → a ≡ x → b ≡ x → a ≡ b
+one-result p q = p ∙ sym q
+
 pub one-outcome : (d : Done-with-work) (a b : Answer) (room′ work′ room″ work″ : List ℕ) → Gives d a room′ work′ → Gives d b room″ work″
     → (a ≡ b) × (room′ ≡ room″) × (work′ ≡ work″)
-one-outcome d a b room′ work′ room″ work″ p q = (p .0 ∙ sym (q .0), p .1 ∙ sym (q .1), p .2 ∙ sym (q .2))
+one-outcome d a b room′ work′ room″ work″ p q = (one-result (p .0) (q .0), one-result (p .1) (q .1), one-result (p .2) (q .2))
 
 -- ---- a call that gives the list rs of the file t
 
@@ -78,11 +81,12 @@ module _ (rs : List Rec) (t work room tally : List ℕ) (a : Answer) (room′ wo
     gives .2 ∙ ap (λ (r : Option Refusal). work-by r work) e,
   )
 
-  refuses : (why : Refusal) → refusal (judged t) (short work) (length rs) (length room) ≡ some why → Refuses why work room a room′ work′
+  refuses : (why : Refusal) → refusal (judged t) (short work) (length rs) (length room) ≡ some why → Refuses rs t why work room a room′ work′
   unfolding answer-by room-by
   refuses why e =
       let d = left-by (some why) e in
       record {
+        given = e;
         outcome = ap (λ (x : Answer). x .outcome) (d .0);
         numbered = numbered why;
         no-counts = ap (λ (x : Answer). x .tally) (d .0);
@@ -92,12 +96,13 @@ module _ (rs : List Rec) (t work room tally : List ℕ) (a : Answer) (room′ wo
 
   -- "11: answer room under eight words a record": with as many words, there is the list
   lists-by : 8 * length rs ≤ length room → refusal (judged t) (short work) (length rs) (length room) ≡ none
-      → Lists rs tally work room a room′ work′
+      → Lists rs t tally work room a room′ work′
   unfolding answer-by room-by work-by
   lists-by h e =
       let d = left-by none e in
       let l : length (all-words rs) ≡ 8 * length rs = length-words rs in
       record {
+        none-given = e;
         outcome = ap (λ (x : Answer). x .outcome) (d .0);
         counts = ap (λ (x : Answer). x .tally) (d .0);
         records = rw (d .1) (read-back rs (drop (8 * length rs) room));
@@ -108,11 +113,11 @@ module _ (rs : List Rec) (t work room tally : List ℕ) (a : Answer) (room′ wo
 
   -- DEMAND 1: "Every byte string handed in as a tree gets warnings or one numbered refusal from document 01. .. A refusal writes no
   -- warning, and the work room afterwards is as 01 says."
-  pub warned-or-refused : Warned-or-refused rs tally work room a room′ work′
+  pub warned-or-refused : Warned-or-refused rs t tally work room a room′ work′
   warned-or-refused = go (judged t) refl (short work) refl (ltb (length room) (8 * length rs)) refl
     where
       go : (j : Judged) → judged t ≡ j → (b : Bool) → short work ≡ b → (c : Bool) → ltb (length room) (8 * length rs) ≡ c
-          → Warned-or-refused rs tally work room a room′ work′
+          → Warned-or-refused rs t tally work room a room′ work′
       go (Unfit why) e b f c g = refused (Tree why) (refuses (Tree why) (rw e (refusal-tree why (short work) (length rs) (length room))))
       go (Valid k) e true f c g = refused WorkRoom (refuses WorkRoom (rw (e, f) (refusal-work k (length rs) (length room))))
       go (Valid k) e false f true g =
@@ -123,14 +128,14 @@ module _ (rs : List Rec) (t work room tally : List ℕ) (a : Answer) (room′ wo
           warned (lists-by h (rw (e, f) (refusal-none k (length rs) (length room) h)))
 
   -- DEMAND 2: a valid file with room enough has its list
-  pub lists : (f : Facts) → judged t ≡ Valid f → 32768 ≤ length work → 8 * length rs ≤ length room → Lists rs tally work room a room′ work′
+  pub lists : (f : Facts) → judged t ≡ Valid f → 32768 ≤ length work → 8 * length rs ≤ length room → Lists rs t tally work room a room′ work′
   lists f e h l = lists-by l (rw (e, long-enough work h) (refusal-none f (length rs) (length room) l))
 
   -- an answer that says how many records there are has the whole list
   pub records-all : (n : ℕ) → a .outcome ≡ Listed n → records-in n room′ ≡ rs
   records-all n i = go warned-or-refused
     where
-      go : Warned-or-refused rs tally work room a room′ work′ → records-in n room′ ≡ rs
+      go : Warned-or-refused rs t tally work room a room′ work′ → records-in n room′ ≡ rs
       go (warned l) = let m : n ≡ length rs = cc (l .outcome, i) in rw m (l .records)
       go (refused why l) = let z : _≡_ {A = ℕ} 0 1 = cc (l .outcome, i) in absurd (omega arith)
 

@@ -1,12 +1,13 @@
 -- What a call leaves, as who reads the lent words afterwards finds it: for the demands, read of a public call. Assumes nothing.
-use Prim.Native.Nat.{ℕ, zero, suc, _+_, _*_, _≤_}
+use Prim.Native.Nat.{ℕ, zero, suc, _*_, _≤_}
 use mathlib.Core.Path.{_≡_}
-use mathlib.Core.List.{List, [], _∷_, _++_}
-use mathlib.Core.Option.{some}
+use mathlib.Core.List.{List, [], _∷_}
+use mathlib.Core.Option.{none, some}
 use lib.ListN.{length, drop, getD}
-use Rattle.rules.specs.Record.{Rec, all-words}
+use Rattle.tree.specs.Judge.{judged}
+use Rattle.rules.specs.Record.{Rec}
 use Rattle.rules.specs.Joined.{no-tally, raise-all}
-use Rattle.rules.specs.Outcome.{numberOf, cleared, work-by}
+use Rattle.rules.specs.Outcome.{numberOf, refusal, short, cleared, work-by}
 use Rattle.rules.specs.Calls.{Done-with-work}
 use Rattle.rules.specs.declared.Refusal.{Refusal}
 use Rattle.rules.specs.declared.Outcome.the-variants.{Listed, Refused}
@@ -31,9 +32,10 @@ records-in (suc n) o = record-in o ∷ records-in n (drop 8 o)
 abbrev pub Gives : Done-with-work → Answer → List ℕ → List ℕ → Type 0
 Gives d a room work = (a ≡ d .answer) × (room ≡ d .room) × (work ≡ d .work)
 
--- The list rs: it stands in the answer room, in its order; the counts are raised by it; "answer room past the last record"
+-- The list rs of the file t: 01's table gives no refusal; the list stands in the answer room, in its order; the counts are raised by it; "answer room past the last record"
 -- stays; "the first 32,768 words of work room are zero".
-pub record Lists (rs : List Rec) (tally work room : List ℕ) (a : Answer) (room′ work′ : List ℕ) : Type 0 where
+pub record Lists (rs : List Rec) (t tally work room : List ℕ) (a : Answer) (room′ work′ : List ℕ) : Type 0 where
+  pub none-given : refusal (judged t) (short work) (length rs) (length room) ≡ none
   pub outcome : a .outcome ≡ Listed (length rs)
   pub counts : a .tally ≡ raise-all rs tally
   pub records : records-in (length rs) room′ ≡ rs
@@ -41,14 +43,15 @@ pub record Lists (rs : List Rec) (tally work room : List ℕ) (a : Answer) (room
   pub as-long : length room′ ≡ length room
   pub cleared-work : work′ ≡ cleared work
 
--- One numbered refusal: "A refusal writes no answer; its tally is all zero", and the work room is as 01 says.
-pub record Refuses (why : Refusal) (work room : List ℕ) (a : Answer) (room′ work′ : List ℕ) : Type 0 where
+-- One numbered refusal, the one that 01's table gives for the file t with the list rs: "A refusal writes no answer; its tally is all zero", and the work room is as 01 says.
+pub record Refuses (rs : List Rec) (t : List ℕ) (why : Refusal) (work room : List ℕ) (a : Answer) (room′ work′ : List ℕ) : Type 0 where
+  pub given : refusal (judged t) (short work) (length rs) (length room) ≡ some why
   pub outcome : a .outcome ≡ Refused why
   pub numbered : (1 ≤ numberOf why) × (numberOf why ≤ 11)
   pub no-counts : a .tally ≡ no-tally
   pub no-warning : room′ ≡ room
   pub work-room : work′ ≡ work-by (some why) work
 
-pub data Warned-or-refused (rs : List Rec) (tally work room : List ℕ) (a : Answer) (room′ work′ : List ℕ) : Type 0 where
-  warned : Lists rs tally work room a room′ work′ → Warned-or-refused rs tally work room a room′ work′
-  refused : (why : Refusal) → Refuses why work room a room′ work′ → Warned-or-refused rs tally work room a room′ work′
+pub data Warned-or-refused (rs : List Rec) (t tally work room : List ℕ) (a : Answer) (room′ work′ : List ℕ) : Type 0 where
+  warned : Lists rs t tally work room a room′ work′ → Warned-or-refused rs t tally work room a room′ work′
+  refused : (why : Refusal) → Refuses rs t why work room a room′ work′ → Warned-or-refused rs t tally work room a room′ work′

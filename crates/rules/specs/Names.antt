@@ -7,14 +7,7 @@ use lib.Dec.{eqb, leb}
 use Rattle.tree.specs.Forest.{Spot, Forest, treeOf}
 use Rattle.tree.specs.Table.{tableOf, spells, underscored, globalsOf}
 use Rattle.rules.specs.Record.{Rec, named-at}
-use Rattle.rules.specs.Order.{Stop, Sort, Cmd, breaks, bare, valued, fails, skip, _⨟_, use-of, set-of, stop, branch, loop, scope, body, look, fail-name}
-
--- "Of all codes 1, 2, 3, 5, 10 and 11 have severity disabled, the rest warning."
-pub data Severity : Type 0 where
-  disabled warning : Severity
-
-abbrev pub severity : ℕ → Severity
-severity c = look c ((1, disabled) ∷ (2, disabled) ∷ (3, disabled) ∷ (5, disabled) ∷ (10, disabled) ∷ (11, disabled) ∷ []) warning
+use Rattle.rules.specs.Order.{Stop, Sort, Cmd, breaks, bare, valued, fails, skip, _⨟_, use-of, set-of, stop, branch, loop, scope, body, fail-name}
 
 -- "an abort: none, loop or function, ordered so"
 pub data Abort : Type 0 where

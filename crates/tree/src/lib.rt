@@ -1,5 +1,5 @@
 // The tree file of document 01: any bytes are judged, and are a valid tree or refused by number and place.
-// Cost of judge: linear in the bytes, about 2,000 instructions a node. Stack: three arrays of 2 KiB (the parents, for 6 and
+// Cost of judge: linear in the bytes, about 540 instructions a node. Stack: three arrays of 2 KiB (the parents, for 6 and
 // for 8, and the depths), 11 KiB in all with what the compiler adds.
 // What a pass asks of the values of a file that was judged is in lookup and keys, with its cost there.
 ghost use mathlib.Core.Path.{_≡_};

@@ -1,5 +1,5 @@
-// The table of values as passes use it: fixed names by their number, traits of a value and globals by tables.
-// Cost: a walk over the values or the globals a call; a table is 512 bytes, filled once and read by value number.
+// The table of values as passes use it: fixed names by their number, traits of a value, globals.
+// Cost: a walk over the values or the globals a call; the table of strings is 512 bytes, filled once and read by value number.
 ghost use mathlib.Core.Path.{_≡_};
 ghost use mathlib.Core.Bool.{not};
 ghost use Prim.Native.Nat.{_<_};
@@ -100,30 +100,6 @@ pub fn begins_underscore(t: &[u8], v: usize) -> bool
     underscored_at(t, v, offset_of(t, node_count(t), v))
 }
 
-pub fn is_string(t: &[u8], v: usize) -> bool
-    ensures { λ r. ⌜ r ≡ a-string (tableOf (now (t .entry))) v ⌝ }
-{
-    if value_count(t) <= v {
-        return false;
-    }
-    string_at(t, v, offset_of(t, node_count(t), v))
-}
-
-// Which of the values below 512 are names that begin with an underscore.
-pub fn underscores(t: &[u8]) -> [bool; 512]
-    ensures { λ r. ⌜ Traits (underscored (tableOf (now (t .entry)))) r ⌝ }
-{
-    let mut table = [false; 512];
-    let mut at = 11 + 16 * node_count(t);
-    let mut v = 0;
-    while v < 512 {
-        table[v] = underscored_at(t, v, at);
-        at = at + 3 + u16_at(t, at + 1);
-        v += 1;
-    }
-    table
-}
-
 // Which of the values below 512 are strings.
 pub fn strings(t: &[u8]) -> [bool; 512]
     ensures { λ r. ⌜ Traits (a-string (tableOf (now (t .entry)))) r ⌝ }
@@ -169,22 +145,4 @@ pub fn is_global(t: &[u8], v: usize) -> bool
         i += 1;
     }
     false
-}
-
-// Which of the value numbers below 512 the file lists as globals.
-pub fn globals(t: &[u8]) -> [bool; 512]
-    ensures { λ r. ⌜ Traits (is-global (now (t .entry))) r ⌝ }
-{
-    let count = globals_listed(t);
-    let from = offset_of(t, node_count(t), value_count(t));
-    let mut table = [false; 512];
-    let mut i = 0;
-    while i < count {
-        let x = u16_at(t, from + 2 * i);
-        if x < 512 {
-            table[x] = true;
-        }
-        i += 1;
-    }
-    table
 }

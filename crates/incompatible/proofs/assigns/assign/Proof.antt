@@ -35,7 +35,6 @@ returns-2 : tie.Need-returns-2
 returns-2 c =
     assign-named (c .before .before .before .before .before .before .before .before .args .t .now) (c .before .before .before .before .before .before .before .before .args .i) (c .before .before .before .before .before .before .before .before .args .e) (c .before .before .before .before .before .before .before .before .args .out .now) (c .before .before .before .before .before .before .before .before .args .d) _ _ (sym (c .before .before .before .before .if1 .left) ∙ c .before .before .before .before .before .is-self-set .ensures) (c .before .before .visit-lvalue .ensures)
 
--- antt refused `assign-spec` as it was built: the module's report says why
 pub assign-spec : {M : Type 1} → statement M
 assign-spec =
     tie.close

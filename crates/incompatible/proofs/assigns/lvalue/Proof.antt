@@ -56,7 +56,6 @@ returns-4 : tie.Need-returns-4
 returns-4 c =
     role-none (c .before .before .before .before .before .before .before .before .args .t .now) (c .before .before .before .before .before .before .before .before .args .out .now) (c .before .before .before .before .before .before .before .before .args .d) (c .before .before .before .before .before .before .before .before .args .role) (c .before .before .before .before .before .before .before .before .args .j) (inside (c .before .before .before .before .before .before .before .before .args .t .now) (c .before .before .before .before .before .before .before .before .args .j)) (sym (c .before .before .before .before .before .role-at .ensures .0) ∙ c .before .before .before .before .if1 .left) (λ z. c .before .before .if2 .left (c .before .before .before .kind-at .ensures .0 ∙ z)) (sym (c .if3 .left) ∙ c .before .binds .ensures ∙ ap bound (c .before .before .before .kind-at .ensures .0))
 
--- antt refused `lvalue-spec` as it was built: the module's report says why
 pub lvalue-spec : {M : Type 1} → statement M
 lvalue-spec =
     tie.close

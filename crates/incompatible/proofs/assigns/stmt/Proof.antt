@@ -77,7 +77,6 @@ returns-5 : tie.Need-returns-5
 returns-5 c =
     stmt-other (c .before .before .before .before .before .before .before .before .args .t .now) (c .before .before .before .before .before .before .before .before .args .out .now) (c .before .before .before .before .before .before .before .before .args .d) (c .before .before .before .before .before .before .before .before .args .i) (inside (c .before .before .before .before .before .before .before .before .args .t .now) (c .before .before .before .before .before .before .before .before .args .i)) (λ z. c .before .before .before .if1 .left (c .before .before .before .before .before .kind-at .ensures .0 ∙ z)) (λ z. c .before .before .if2 .left (c .before .before .before .before .before .kind-at .ensures .0 ∙ z)) (λ z. c .before .if3 .left (c .before .before .before .before .before .kind-at .ensures .0 ∙ z)) (λ z. c .if4 .left (c .before .before .before .before .before .kind-at .ensures .0 ∙ z))
 
--- antt refused `stmt-spec` as it was built: the module's report says why
 pub stmt-spec : {M : Type 1} → statement M
 stmt-spec =
     tie.close

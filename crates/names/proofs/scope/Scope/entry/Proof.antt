@@ -7,9 +7,6 @@ use borrow.Author.Needs.{needs}
 use Rattle.names.proofs.scope.Scope.entry.Statement.{statement}
 use Rattle.names.proofs.scope.Scope.entry.Tie as tie
 
-mul-result : tie.Need-mul-result
-mul-result c = search needs
-
 element-copy-out-result : tie.Need-element-copy-out-result
 element-copy-out-result c = search needs
 
@@ -25,4 +22,4 @@ returns-2 c =
 
 pub entry-spec : {M : Type 1} → statement M
 entry-spec =
-    tie.close (tie.spec mul-result element-copy-out-result returns gone-requires returns-2)
+    tie.close (tie.spec element-copy-out-result returns gone-requires returns-2)

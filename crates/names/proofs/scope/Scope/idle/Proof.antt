@@ -27,13 +27,13 @@ word-at-requires c κs = search needs
 find-requires : tie.Need-find-requires Inv-loop μ-loop
 find-requires c κs = search needs
 
-mul-e : tie.Need-mul-e Inv-loop μ-loop
-mul-e c = search needs
-
 element-copy-out-e : tie.Need-element-copy-out-e Inv-loop μ-loop
 element-copy-out-e c =
     let z = find-self ((c .before .before .before .before .before .before .before .before .args) .t .now) ((c .before .before .before .before .before .loop) .w) ((c .before .before .before .before .before .loop) .j) ((c .before .before .before .before .before .before .before .before .args) .t1 .first) ((c .before .before .before .before .before .before .before .before .args) .t1 .settings) ((c .before .before .before .before .before .loop) .inv .2) ((c .before .before .before .before .loop-test) .taken) in
     omega (arith, rw (← (c .before .before .word-at) .ensures .0, ← (c .find) .ensures .0) at z)
+
+is-held-requires : tie.Need-is-held-requires Inv-loop μ-loop
+is-held-requires c κs = search needs
 
 spared-requires : tie.Need-spared-requires Inv-loop μ-loop
 spared-requires c κs = search needs
@@ -49,7 +49,7 @@ loop-less c = search needs
 
 loop-again : tie.Need-loop-again Inv-loop μ-loop
 loop-again c =
-    ((c .before .before .idle-one) .ensures .2, search needs, omega arith, rw ((c .before .before .idle-one) .ensures .0, (c .before .before .idle-one) .ensures .1, (c .before .before .before .spared) .ensures, (c .before .before .before .before .before .before .before .find) .ensures .0, (c .before .before .before .before .before .before .before .before .before .word-at) .ensures .0) ((c .before .before .before .before .before .before .before .before .before .before .before .before .loop) .inv .3 ∙ idles-next ((c .before .before .before .before .before .before .before .before .before .before .before .before .before .before .before .args) .t .now) ((c .before .before .before .before .before .before .before .before .before .before .before .before .before .before .before .args) .top) ((c .before .before .before .before .before .before .before .before .before .before .before .before .before .before .before .args) .t1) ((c .before .before .before .before .before .before .before .before .before .before .before .before .loop) .w) ((c .before .before .before .before .before .before .before .before .before .before .before .before .loop) .n) ((c .before .before .before .before .before .before .before .before .before .before .before .before .loop) .j) ((c .before .before .before .before .before .before .before .before .before .before .before .before .before .before .before .args) .t1 .settings) ((c .before .before .before .before .before .before .before .before .before .before .before .loop-test) .taken)))
+    ((c .before .before .idle-one) .ensures .2, search needs, omega arith, rw ((c .before .before .idle-one) .ensures .0, (c .before .before .idle-one) .ensures .1, (c .before .before .before .spared) .ensures, (c .before .before .before .before .is-held) .ensures, (c .before .before .before .before .before .before .before .before .find) .ensures .0, (c .before .before .before .before .before .before .before .before .before .before .word-at) .ensures .0) ((c .before .before .before .before .before .before .before .before .before .before .before .before .before .loop) .inv .3 ∙ idles-next ((c .before .before .before .before .before .before .before .before .before .before .before .before .before .before .before .before .args) .t .now) ((c .before .before .before .before .before .before .before .before .before .before .before .before .before .before .before .before .args) .top) ((c .before .before .before .before .before .before .before .before .before .before .before .before .before .before .before .before .args) .t1) ((c .before .before .before .before .before .before .before .before .before .before .before .before .before .loop) .w) ((c .before .before .before .before .before .before .before .before .before .before .before .before .before .loop) .n) ((c .before .before .before .before .before .before .before .before .before .before .before .before .before .loop) .j) ((c .before .before .before .before .before .before .before .before .before .before .before .before .before .before .before .before .args) .t1 .settings) ((c .before .before .before .before .before .before .before .before .before .before .before .before .loop-test) .taken)))
 
 same-length : tie.Need-same-length Inv-loop μ-loop
 same-length c = search needs
@@ -69,8 +69,8 @@ idle-spec =
     loop-holds
     word-at-requires
     find-requires
-    mul-e
     element-copy-out-e
+    is-held-requires
     spared-requires
     idle-one-requires
     add-j

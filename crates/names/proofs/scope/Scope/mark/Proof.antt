@@ -20,11 +20,11 @@ loop-holds : tie.Need-loop-holds Inv-loop μ-loop
 loop-holds c =
     (search needs, refl, refl)
 
-mul-e : tie.Need-mul-e Inv-loop μ-loop
-mul-e c = search needs
-
 element-copy-out-e : tie.Need-element-copy-out-e Inv-loop μ-loop
 element-copy-out-e c = search needs
+
+is-held-requires : tie.Need-is-held-requires Inv-loop μ-loop
+is-held-requires c κs = search needs
 
 mark-one-requires : tie.Need-mark-one-requires Inv-loop μ-loop
 mark-one-requires c κs = search needs
@@ -37,7 +37,7 @@ loop-less c = search needs
 
 loop-again : tie.Need-loop-again Inv-loop μ-loop
 loop-again c =
-    (omega arith, search needs, rw ((c .before .before .mark-one) .ensures) ((c .before .before .before .before .before .before .loop) .inv .2 ∙ marks-next ((c .before .before .before .before .before .before .before .before .before .args) .t .now) ((c .before .before .before .before .before .before .before .before .before .args) .t1 .entries) ((c .before .before .before .before .before .before .before .before .before .args) .i) ((c .before .before .before .before .before .before .loop) .w) ((c .before .before .before .before .before .before .loop) .j) ((c .before .before .before .before .before .before .before .before .before .args) .b) ((c .before .before .before .before .before .loop-test) .taken)))
+    (omega arith, search needs, rw ((c .before .before .mark-one) .ensures, (c .before .before .before .is-held) .ensures) ((c .before .before .before .before .before .before .before .loop) .inv .2 ∙ marks-next ((c .before .before .before .before .before .before .before .before .before .before .args) .t .now) ((c .before .before .before .before .before .before .before .before .before .before .args) .t1 .entries) ((c .before .before .before .before .before .before .before .before .before .before .args) .i) ((c .before .before .before .before .before .before .before .loop) .w) ((c .before .before .before .before .before .before .before .loop) .j) ((c .before .before .before .before .before .before .before .before .before .before .args) .b) ((c .before .before .before .before .before .before .loop-test) .taken)))
 
 same-length : tie.Need-same-length Inv-loop μ-loop
 same-length c = search needs
@@ -53,8 +53,8 @@ mark-spec =
     Inv-loop
     μ-loop
     loop-holds
-    mul-e
     element-copy-out-e
+    is-held-requires
     mark-one-requires
     add-j
     loop-less

@@ -23,15 +23,9 @@ loop-holds : tie.Need-loop-holds Inv-loop μ-loop
 loop-holds c =
     (refl, refl, refl)
 
-mul-p : tie.Need-mul-p Inv-loop μ-loop
-mul-p c = search needs
-
 element-copy-out-p : tie.Need-element-copy-out-p Inv-loop μ-loop
 element-copy-out-p c =
     omega arith
-
-mul-q : tie.Need-mul-q Inv-loop μ-loop
-mul-q c = search needs
 
 element-copy-out-q : tie.Need-element-copy-out-q Inv-loop μ-loop
 element-copy-out-q c =
@@ -39,9 +33,6 @@ element-copy-out-q c =
 
 joined-requires : tie.Need-joined-requires Inv-loop μ-loop
 joined-requires c κs = search needs
-
-mul-t12 : tie.Need-mul-t12 Inv-loop μ-loop
-mul-t12 c = search needs
 
 element-set-from-self : tie.Need-element-set-from-self Inv-loop μ-loop
 element-set-from-self c =
@@ -70,12 +61,9 @@ merged-spec =
     Inv-loop
     μ-loop
     loop-holds
-    mul-p
     element-copy-out-p
-    mul-q
     element-copy-out-q
     joined-requires
-    mul-t12
     element-set-from-self
     add-j
     loop-less

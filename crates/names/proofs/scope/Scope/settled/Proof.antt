@@ -23,9 +23,6 @@ loop-holds : tie.Need-loop-holds Inv-loop μ-loop
 loop-holds c =
     (refl, refl, refl)
 
-mul-e : tie.Need-mul-e Inv-loop μ-loop
-mul-e c = search needs
-
 element-copy-out-e : tie.Need-element-copy-out-e Inv-loop μ-loop
 element-copy-out-e c =
     omega arith
@@ -35,9 +32,6 @@ word-at-requires c κs = search needs
 
 reset-requires : tie.Need-reset-requires Inv-loop μ-loop
 reset-requires c κs = search needs
-
-mul-t14 : tie.Need-mul-t14 Inv-loop μ-loop
-mul-t14 c = search needs
 
 element-set-from-self : tie.Need-element-set-from-self Inv-loop μ-loop
 element-set-from-self c =
@@ -66,11 +60,9 @@ settled-spec =
     Inv-loop
     μ-loop
     loop-holds
-    mul-e
     element-copy-out-e
     word-at-requires
     reset-requires
-    mul-t14
     element-set-from-self
     add-j
     loop-less
