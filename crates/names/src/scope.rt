@@ -4,7 +4,7 @@ ghost use mathlib.Core.Bool.{_||_};
 ghost use Prim.Native.Nat.{_+_, _-_, _<_, _≤_};
 ghost use lib.ListN.{length, getD};
 ghost use Rattle.rules.specs.Names.{join-sure};
-ghost use Rattle.names.specs.State.{heldOf, no-entry, baseIn, Fits};
+ghost use Rattle.names.specs.State.{heldOf, no-entry, Fits};
 ghost use Rattle.names.specs.Words.{presentOf, sureOf, abortsOf, unloopOf, smallerOf, standingIf, joinStanding, joinedOf, resetOf, markWords, lateLines, sparedAt, sparedIn, idleLines, passLines, unknownLines};
 ghost use Rattle.names.specs.Words.{newScope, enterScope, with-abort, with-warnings, addedWords, addedScope, settledScope, setScope, marksOf, cannotWords, cannotScope, unbindsWords, unbindsScope, warnWords, warnCount, standingIn, outwardOf};
 ghost use Rattle.names.specs.Words.{takenWords, takenScope, awayWords, awayScope, usedWords, usedScope, backScope, mergedScope, joinScope, lateOf, idleOf, passedOf, leaveWords, leaveScope, unknownOf, closedOf};
@@ -504,25 +504,6 @@ impl Scope {
         Standing::Absent
     }
 
-    // The scope outside this one where node i's name has a standing: the place where its settings end, or 0.
-    fn outward(self, t: &[u8], w: &[u16], i: usize) -> usize
-        requires { ⌜ (self .first ≤ 1024) × (length (self .entries) ≡ 1024) ⌝ }
-        ensures { λ r. ⌜ (r ≡ outwardOf (now (t .entry)) (now (w .entry)) self i) × (r ≤ 1024) × (0 < r → baseIn (now (w .entry)) (r - 1) < r) ⌝ }
-    {
-        let mut b = self.first;
-        while 0 < b {
-            let a = word_at(w, BASE + (b - 1));
-            if b <= a {
-                return 0;
-            }
-            if present(self.standing(t, w, a, b, i)) {
-                return b;
-            }
-            b = a;
-        }
-        0
-    }
-
     // A use of node i, whose name has this standing in the scope with the places from a up to b.
     fn taken(self, t: &[u8], w: &mut [u16], a: usize, b: usize, i: usize, s: Standing) -> Self
         requires { ⌜ (a ≤ b) × (b ≤ 1024) × (self .warnings ≤ 1024) × (i < 65536) ⌝ }
@@ -535,20 +516,42 @@ impl Scope {
         self.warned(t, w, 6, i)
     }
 
-    // A use of node i, whose name is absent in this scope.
+    // A use of node i, whose name is absent everywhere.
+    fn nowhere(self, t: &[u8], w: &mut [u16], i: usize) -> Self
+        requires { ⌜ Fits (now w) self × (i < 65536) ⌝ }
+        ensures { λ r. ⌜ (r ≡ awayScope (now (t .entry)) (now (w .entry)) self 0 i) × ((now (w .exit)) ≡ awayWords (now (t .entry)) (now (w .entry)) self 0 i) ⌝ }
+    {
+        let s = self.cannot(t, w, i);
+        s.unbinds(t, w, i)
+    }
+
+    // A use of node i, whose name has this standing in the scope outside with the places from a up to b.
+    fn outside(self, t: &[u8], w: &mut [u16], a: usize, b: usize, i: usize, k: Standing) -> Self
+        requires { ⌜ (a ≤ b) × (b ≤ 1024) × Fits (now w) self × (i < 65536) ⌝ }
+        ensures { λ r. ⌜ (r ≡ cannotScope (now (t .entry)) (takenWords (now (t .entry)) (now (w .entry)) self a b i k) (takenScope (now (t .entry)) (now (w .entry)) self a b i k) i) × ((now (w .exit)) ≡ cannotWords (now (t .entry)) (takenWords (now (t .entry)) (now (w .entry)) self a b i k) (takenScope (now (t .entry)) (now (w .entry)) self a b i k) i) ⌝ }
+    {
+        let s = self.taken(t, w, a, b, i, k);
+        s.cannot(t, w, i)
+    }
+
+    // A use of node i, whose name is absent in this scope: the nearest one outside where it has a standing counts.
     fn away(self, t: &[u8], w: &mut [u16], i: usize) -> Self
         requires { ⌜ Fits (now w) self × (i < 65536) ⌝ }
         ensures { λ r. ⌜ (r ≡ awayScope (now (t .entry)) (now (w .entry)) self (outwardOf (now (t .entry)) (now (w .entry)) self i) i) × ((now (w .exit)) ≡ awayWords (now (t .entry)) (now (w .entry)) self (outwardOf (now (t .entry)) (now (w .entry)) self i) i) ⌝ }
     {
-        let b = self.outward(t, w, i);
-        if b == 0 {
-            let s = self.cannot(t, w, i);
-            return s.unbinds(t, w, i);
+        let mut b = self.first;
+        while 0 < b {
+            let a = word_at(w, BASE + (b - 1));
+            if b <= a {
+                return self.nowhere(t, w, i);
+            }
+            let k = self.standing(t, w, a, b, i);
+            if present(k) {
+                return self.outside(t, w, a, b, i, k);
+            }
+            b = a;
         }
-        let a = word_at(w, BASE + (b - 1));
-        let k = self.standing(t, w, a, b, i);
-        let s = self.taken(t, w, a, b, i, k);
-        s.cannot(t, w, i)
+        self.nowhere(t, w, i)
     }
 
     // Node i's name is used.

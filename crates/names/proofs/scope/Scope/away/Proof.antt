@@ -1,82 +1,155 @@
-use Prim.Native.Nat.{_-_}
+use Prim.Native.Nat.{ℕ, _-_, _≤_}
 use native.Mathlib.Omega.{arith}
-use mathlib.Core.Path.{_≡_, sym, _∙_}
+use mathlib.Core.Path.{_≡_, refl, sym, ap, _∙_}
 use mathlib.Core.Bool.{true, false}
+use mathlib.Core.List.{List}
 use lib.Dec.{eqb}
-use borrow.Author.Tests.{eq-eqb, ne-eqb}
-use Rattle.names.specs.Words.{awayScope, awayWords, cannotScope, outwardOf}
-use Rattle.names.proofs.Steps.{taken-cants}
+use lib.ListN.{length}
+use borrow.Author.Tests.{ne-eqb}
 use borrow.Author.Needs.{needs}
+use Rattle.names.specs.State.{baseIn}
+use Rattle.names.specs.declared.scope.Scope.{Scope}
+use Rattle.names.specs.Words.{awayScope, awayWords, outwardIn, outwardOf, presentOf, standingIn}
+use Rattle.names.proofs.Steps.{outward-none, outward-bad, outward-here, outward-on}
 use Rattle.names.proofs.scope.Scope.away.Statement.{statement}
 use Rattle.names.proofs.scope.Scope.away.Tie as tie
 
-outward-requires : tie.Need-outward-requires
-outward-requires c κs = search needs
+outward-is : (t w : List ℕ) (s : Scope) (i : ℕ) → outwardOf t w s i ≡ outwardIn t w (s .entries) i (s .first) (s .first)
+unfolding outwardOf
+outward-is t w s i = refl
 
-cannot-requires : tie.Need-cannot-requires
-cannot-requires c κs = search needs
+abbrev Inv-loop : tie.InvT-loop
+Inv-loop self t w₀ i b₀ w b =
+    (w ≡ w₀) × (b ≤ 1024) × (outwardIn t w₀ (self .entries) i b₀ b₀ ≡ outwardIn t w₀ (self .entries) i b b)
 
-unbinds-requires : tie.Need-unbinds-requires
-unfolding cannotScope
-unbinds-requires c κs =
-    rw ((c .before .before .before .cannot) .ensures .0) (omega arith, omega arith, omega arith)
+abbrev μ-loop : tie.MeasureT-loop
+μ-loop self t w₀ i b₀ w b = b
 
-same-length : tie.Need-same-length
-same-length c = search needs
+loop-holds : tie.Need-loop-holds Inv-loop μ-loop
+loop-holds c =
+    (refl, omega (arith, (c .before .before .pre) .0 .first, (c .before .before .pre) .0 .settings), refl)
 
-returns : tie.Need-returns
-unfolding awayScope awayWords
+sub-word-at : tie.Need-sub-word-at Inv-loop μ-loop
+sub-word-at c =
+    search needs
+
+add-word-at : tie.Need-add-word-at Inv-loop μ-loop
+add-word-at c =
+    omega (arith, (c .before .before .loop) .inv .1)
+
+word-at-requires : tie.Need-word-at-requires Inv-loop μ-loop
+word-at-requires c κs =
+    search needs
+
+nowhere-requires : tie.Need-nowhere-requires Inv-loop μ-loop
+nowhere-requires c κs =
+    (rw ((c .before .before .before .before .before .loop) .inv .0) ((c .before .before .before .before .before .before .before .before .pre) .0), (c .before .before .before .before .before .before .before .before .pre) .1)
+
+same-length : tie.Need-same-length Inv-loop μ-loop
+same-length c =
+    (c .before .before .nowhere) .kept .1 .1 .0 ∙ ap (λ (l : List ℕ). length l) ((c .before .before .before .before .before .before .before .before .loop) .inv .0)
+
+returns : tie.Need-returns Inv-loop μ-loop
 returns c =
-    let e : eqb (outwardOf ((c .before .before .before .before .before .before .before .before .before .before .before .before .before .args) .t .now) ((c .before .before .before .before .before .before .before .before .before .before .before .before .before .args) .w .now) ((c .before .before .before .before .before .before .before .before .before .before .before .before .before .args) .self) ((c .before .before .before .before .before .before .before .before .before .before .before .before .before .args) .i)) 0 ≡ true = eq-eqb _ 0 (sym ((c .before .before .before .before .before .before .before .before .before .outward) .ensures .0) ∙ (c .before .before .before .before .before .before .before .before .if1) .taken) in
-    (rw (e, ← (c .before .before .before .before .before .before .cannot) .ensures .0, ← (c .before .before .before .before .before .before .cannot) .ensures .1) ((c .before .before .unbinds) .ensures .0), rw (e, ← (c .before .before .before .before .before .before .cannot) .ensures .0, ← (c .before .before .before .before .before .before .cannot) .ensures .1) ((c .before .before .unbinds) .ensures .1))
+    let t = (c .before .before .before .before .before .before .before .before .before .before .before .args) .t .now in
+    let w = (c .before .before .before .before .before .before .before .before .before .before .before .args) .w .now in
+    let s = (c .before .before .before .before .before .before .before .before .before .before .before .args) .self in
+    let i = (c .before .before .before .before .before .before .before .before .before .before .before .args) .i in
+    let b = (c .before .before .before .before .before .before .before .before .loop) .b in
+    let e : (c .before .before .before .before .before .word-at) .result ≡ baseIn w (b - 1) = (c .before .before .before .before .before .word-at) .ensures .0 ∙ ap (λ (l : List ℕ). baseIn l (b - 1)) ((c .before .before .before .before .before .before .before .before .loop) .inv .0) in
+    let q : outwardOf t w s i ≡ 0 = outward-is t w s i ∙ (c .before .before .before .before .before .before .before .before .loop) .inv .2 ∙ outward-bad t w (s .entries) i b ((c .before .before .before .before .before .before .before .loop-test) .taken) (rw e at ((c .before .before .before .before .if1) .taken)) in
+    let z = rw ((c .before .before .before .before .before .before .before .before .loop) .inv .0) at ((c .before .before .nowhere) .ensures) in
+    (rw q (z .0), rw q (z .1))
 
-sub-word-at : tie.Need-sub-word-at
-sub-word-at c = search needs
-
-add-word-at : tie.Need-add-word-at
-add-word-at c = search needs
-
-word-at-requires : tie.Need-word-at-requires
-word-at-requires c κs = search needs
-
-standing-requires : tie.Need-standing-requires
+standing-requires : tie.Need-standing-requires Inv-loop μ-loop
 standing-requires c κs =
-    let z = (c .before .before .before .before .outward) .ensures .2 (omega (arith, (c .before .before .before .if1) .left)) in
-    (rw ((c .before .word-at) .ensures .0) (omega arith), (c .before .before .before .before .outward) .ensures .1, (c .before .before .before .before .before .before .before .before .pre) .0 .wide)
+    (omega (arith, (c .before .if1) .left), (c .before .before .before .before .before .loop) .inv .1, (c .before .before .before .before .before .before .before .before .pre) .0 .wide)
 
-taken-requires : tie.Need-taken-requires
-taken-requires c κs =
-    let z = (c .before .before .before .before .before .before .outward) .ensures .2 (omega (arith, (c .before .before .before .before .before .if1) .left)) in
-    (rw ((c .before .before .before .word-at) .ensures .0) (omega arith), (c .before .before .before .before .before .before .outward) .ensures .1, (c .before .before .before .before .before .before .before .before .before .before .pre) .0 .warnings, (c .before .before .before .before .before .before .before .before .before .before .pre) .1)
+present-requires : tie.Need-present-requires Inv-loop μ-loop
+present-requires c κs =
+    search needs
 
-cannot-requires-2 : tie.Need-cannot-requires-2
-cannot-requires-2 c κs =
-    let k = taken-cants ((c .before .before .before .before .before .before .before .before .before .before .before .before .before .before .args) .t .now) ((c .before .before .before .before .before .before .before .before .before .before .before .before .before .before .args) .w .now) ((c .before .before .before .before .before .before .before .before .before .before .before .before .before .before .args) .self) ((c .before .before .before .before .before .before .before .word-at) .result) ((c .before .before .before .before .before .before .before .before .before .before .outward) .result) ((c .before .before .before .before .before .before .before .before .before .before .before .before .before .before .args) .i) ((c .before .before .before .before .before .standing) .result) 6144 ((c .before .before .before .before .before .before .before .before .before .before .before .before .before .before .pre) .0 .cant) ((c .before .before .before .before .before .before .before .before .before .before .before .before .before .before .pre) .0 .cants) in
-    rw ((c .before .before .before .taken) .ensures .0) (k .0, k .1, (c .before .before .before .before .before .before .before .before .before .before .before .before .before .before .pre) .1)
+outside-requires : tie.Need-outside-requires Inv-loop μ-loop
+outside-requires c κs =
+    (omega (arith, (c .before .before .before .before .before .if1) .left), (c .before .before .before .before .before .before .before .before .before .loop) .inv .1, rw ((c .before .before .before .before .before .before .before .before .before .loop) .inv .0) ((c .before .before .before .before .before .before .before .before .before .before .before .before .pre) .0), (c .before .before .before .before .before .before .before .before .before .before .before .before .pre) .1)
 
-same-length-2 : tie.Need-same-length-2
-same-length-2 c = search needs
+same-length-2 : tie.Need-same-length-2 Inv-loop μ-loop
+same-length-2 c =
+    (c .before .before .outside) .kept .1 .1 .0 ∙ ap (λ (l : List ℕ). length l) ((c .before .before .before .before .before .before .before .before .before .before .before .before .loop) .inv .0)
 
-returns-2 : tie.Need-returns-2
+returns-2 : tie.Need-returns-2 Inv-loop μ-loop
 unfolding awayScope awayWords
 returns-2 c =
-    let e : eqb (outwardOf ((c .before .before .before .before .before .before .before .before .before .before .before .before .before .before .before .before .before .args) .t .now) ((c .before .before .before .before .before .before .before .before .before .before .before .before .before .before .before .before .before .args) .w .now) ((c .before .before .before .before .before .before .before .before .before .before .before .before .before .before .before .before .before .args) .self) ((c .before .before .before .before .before .before .before .before .before .before .before .before .before .before .before .before .before .args) .i)) 0 ≡ false = ne-eqb _ 0 (λ z. (c .before .before .before .before .before .before .before .before .before .before .before .before .if1) .left ((c .before .before .before .before .before .before .before .before .before .before .before .before .before .outward) .ensures .0 ∙ z)) in
-    (rw (e, ← (c .before .before .before .before .before .before .before .before .before .before .before .before .before .outward) .ensures .0, ← (c .before .before .before .before .before .before .before .before .before .before .word-at) .ensures .0, ← (c .before .before .before .before .before .before .before .before .standing) .ensures, ← (c .before .before .before .before .before .before .taken) .ensures .0, ← (c .before .before .before .before .before .before .taken) .ensures .1) ((c .before .before .cannot2) .ensures .0), rw (e, ← (c .before .before .before .before .before .before .before .before .before .before .before .before .before .outward) .ensures .0, ← (c .before .before .before .before .before .before .before .before .before .before .word-at) .ensures .0, ← (c .before .before .before .before .before .before .before .before .standing) .ensures, ← (c .before .before .before .before .before .before .taken) .ensures .0, ← (c .before .before .before .before .before .before .taken) .ensures .1) ((c .before .before .cannot2) .ensures .1))
+    let t = (c .before .before .before .before .before .before .before .before .before .before .before .before .before .before .before .args) .t .now in
+    let w = (c .before .before .before .before .before .before .before .before .before .before .before .before .before .before .before .args) .w .now in
+    let s = (c .before .before .before .before .before .before .before .before .before .before .before .before .before .before .before .args) .self in
+    let i = (c .before .before .before .before .before .before .before .before .before .before .before .before .before .before .before .args) .i in
+    let b = (c .before .before .before .before .before .before .before .before .before .before .before .before .loop) .b in
+    let e : (c .before .before .before .before .before .before .before .before .before .word-at) .result ≡ baseIn w (b - 1) = (c .before .before .before .before .before .before .before .before .before .word-at) .ensures .0 ∙ ap (λ (l : List ℕ). baseIn l (b - 1)) ((c .before .before .before .before .before .before .before .before .before .before .before .before .loop) .inv .0) in
+    let k : (c .before .before .before .before .before .before .standing) .result ≡ standingIn t w (s .entries) ((c .before .before .before .before .before .before .before .before .before .word-at) .result) b i = (c .before .before .before .before .before .before .standing) .ensures ∙ ap (λ (l : List ℕ). standingIn t l (s .entries) ((c .before .before .before .before .before .before .before .before .before .word-at) .result) b i) ((c .before .before .before .before .before .before .before .before .before .before .before .before .loop) .inv .0) in
+    let m : (c .before .before .before .before .before .before .standing) .result ≡ standingIn t w (s .entries) (baseIn w (b - 1)) b i = k ∙ ap (λ (a : ℕ). standingIn t w (s .entries) a b i) e in
+    let p : presentOf (standingIn t w (s .entries) (baseIn w (b - 1)) b i) ≡ true = ap presentOf (sym m) ∙ sym ((c .before .before .before .before .before .present) .ensures) ∙ (c .before .before .before .before .if2) .taken in
+    let q : outwardOf t w s i ≡ b = outward-is t w s i ∙ (c .before .before .before .before .before .before .before .before .before .before .before .before .loop) .inv .2 ∙ outward-here t w (s .entries) i b ((c .before .before .before .before .before .before .before .before .before .before .before .loop-test) .taken) (rw e at ((c .before .before .before .before .before .before .before .before .if1) .left)) p in
+    let n : eqb b 0 ≡ false = ne-eqb b 0 (λ y. omega (arith, y, (c .before .before .before .before .before .before .before .before .before .before .before .loop-test) .taken)) in
+    let z = rw ((c .before .before .before .before .before .before .before .before .before .before .before .before .loop) .inv .0) at ((c .before .before .outside) .ensures) in
+    (rw (q, n, ← m, ← e) (z .0), rw (q, n, ← m, ← e) (z .1))
+
+loop-less : tie.Need-loop-less Inv-loop μ-loop
+loop-less c =
+    omega (arith, (c .before .before .before .before .if1) .left)
+
+loop-again : tie.Need-loop-again Inv-loop μ-loop
+loop-again c =
+    let t = (c .before .before .before .before .before .before .before .before .before .before .before .args) .t .now in
+    let w = (c .before .before .before .before .before .before .before .before .before .before .before .args) .w .now in
+    let s = (c .before .before .before .before .before .before .before .before .before .before .before .args) .self in
+    let i = (c .before .before .before .before .before .before .before .before .before .before .before .args) .i in
+    let b = (c .before .before .before .before .before .before .before .before .loop) .b in
+    let e : (c .before .before .before .before .before .word-at) .result ≡ baseIn w (b - 1) = (c .before .before .before .before .before .word-at) .ensures .0 ∙ ap (λ (l : List ℕ). baseIn l (b - 1)) ((c .before .before .before .before .before .before .before .before .loop) .inv .0) in
+    let k : (c .before .before .standing) .result ≡ standingIn t w (s .entries) ((c .before .before .before .before .before .word-at) .result) b i = (c .before .before .standing) .ensures ∙ ap (λ (l : List ℕ). standingIn t l (s .entries) ((c .before .before .before .before .before .word-at) .result) b i) ((c .before .before .before .before .before .before .before .before .loop) .inv .0) in
+    let m : (c .before .before .standing) .result ≡ standingIn t w (s .entries) (baseIn w (b - 1)) b i = k ∙ ap (λ (a : ℕ). standingIn t w (s .entries) a b i) e in
+    let p : presentOf (standingIn t w (s .entries) (baseIn w (b - 1)) b i) ≡ false = ap presentOf (sym m) ∙ sym ((c .before .present) .ensures) ∙ (c .if2) .left in
+    ((c .before .before .before .before .before .before .before .before .loop) .inv .0, omega (arith, (c .before .before .before .before .if1) .left, (c .before .before .before .before .before .before .before .before .loop) .inv .1), rw e ((c .before .before .before .before .before .before .before .before .loop) .inv .2 ∙ outward-on t w (s .entries) i b ((c .before .before .before .before .before .before .before .loop-test) .taken) (rw e at ((c .before .before .before .before .if1) .left)) p))
+
+nowhere-requires-2 : tie.Need-nowhere-requires-2 Inv-loop μ-loop
+nowhere-requires-2 c κs =
+    (rw ((c .before .before .loop) .inv .0) ((c .before .before .before .before .before .pre) .0), (c .before .before .before .before .before .pre) .1)
+
+same-length-3 : tie.Need-same-length-3 Inv-loop μ-loop
+same-length-3 c =
+    (c .before .before .nowhere2) .kept .1 .1 .0 ∙ ap (λ (l : List ℕ). length l) ((c .before .before .before .before .before .loop) .inv .0)
+
+returns-3 : tie.Need-returns-3 Inv-loop μ-loop
+returns-3 c =
+    let t = (c .before .before .before .before .before .before .before .before .args) .t .now in
+    let w = (c .before .before .before .before .before .before .before .before .args) .w .now in
+    let s = (c .before .before .before .before .before .before .before .before .args) .self in
+    let i = (c .before .before .before .before .before .before .before .before .args) .i in
+    let o : (c .before .before .before .before .before .loop) .b ≡ 0 = omega (arith, (c .before .before .before .before .loop-test) .left) in
+    let q : outwardOf t w s i ≡ 0 = outward-is t w s i ∙ (c .before .before .before .before .before .loop) .inv .2 ∙ rw o (outward-none t w (s .entries) i 0) in
+    let z = rw ((c .before .before .before .before .before .loop) .inv .0) at ((c .before .before .nowhere2) .ensures) in
+    (rw q (z .0), rw q (z .1))
 
 pub away-spec : {M : Type 1} → statement M
 away-spec =
     tie.close
     (tie.spec
-    outward-requires
-    cannot-requires
-    unbinds-requires
-    same-length
-    returns
+    Inv-loop
+    μ-loop
+    loop-holds
     sub-word-at
     add-word-at
     word-at-requires
+    nowhere-requires
+    same-length
+    returns
     standing-requires
-    taken-requires
-    cannot-requires-2
+    present-requires
+    outside-requires
     same-length-2
-    returns-2)
+    returns-2
+    loop-less
+    loop-again
+    nowhere-requires-2
+    same-length-3
+    returns-3)
