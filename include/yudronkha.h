@@ -33,7 +33,7 @@ extern "C" {
 #define YUDRONKHA_NO_VALUE 65535     /* a record's value number where it has none */
 
 /* Stack to keep free for one call, in bytes: measured, not proved (docs/SPEED.md). The most seen on trees of depth 48
- * is 585,576. */
+ * is 586,616. */
 #define YUDRONKHA_STACK_BYTES 1048576
 
 /* What a call returns: 0, or the number of the one refusal. Where several hold, the lowest number is given, at its lowest
