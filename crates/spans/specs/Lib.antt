@@ -1,0 +1,2 @@
+-- What holds of every record that a valid file's list has.
+pub mod Fit
