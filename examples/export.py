@@ -275,14 +275,18 @@ def sizes(node):
 
 def tree_file(source):
     """The tree file of a script's bytes."""
-    root = Script(source).module()
+    listed = GLOBALS.search(source)
+    return packed(Script(source).module(), listed.group(1).split() if listed else None)
+
+
+def packed(root, listed):
+    """The tree file of a root and of the globals' names, None where they aren't given."""
     sizes(root)
     nodes = list(root.walk())
-    listed = GLOBALS.search(source)
-    names = sorted({(0, word) for word in listed.group(1).split()}) if listed else []
-    values = sorted({n.value for n in nodes if n.value} | set(names), key=lambda v: (v[0], len(v[1]), v[1]))
+    names = {(0, word) for word in listed or ()}
+    values = sorted({n.value for n in nodes if n.value} | names, key=lambda v: (v[0], len(v[1]), v[1]))
     number = {v: i for i, v in enumerate(values)}
-    counts = len(nodes), len(values), len(names) if listed else NONE
+    counts = len(nodes), len(values), NONE if listed is None else len(names)
     if max(counts[:2]) > 65535 or any(len(data) > 255 for _, data in values):
         raise Refused("a count or a length that no tree file holds")
     out = [b"SLT", struct.pack("<HHHH", 1, *counts)]

@@ -6,6 +6,7 @@ use mathlib.Core.List.{List, [], _∷_, _++_}
 use lib.Dec.{T, eqb, leb, leb→le, le→leb, nleb→lt, eqb→eq, eqb-refl, not-T, T-not}
 use lib.ListN.{length, take, drop, getD, take-append-drop}
 use native.Mathlib.Omega.{arith}
+use borrow.Author.Tests.{ne-eqb, lt-leb}
 use Rattle.rules.proofs.Bools.{so, nope, and-left, and-right, both, test}
 use Rattle.json.specs.Utf8.{within, tail, Char, one, two, three-e0, three-ec, three-ed, three-ef, four-f0, four-f3, four-f4, more, second, low, high, whole, front}
 use Rattle.json.specs.Kept.{Outside}
@@ -23,12 +24,6 @@ within-so a e b p q = both (leb a b) (leb b e) (le→leb a b p) (le→leb b e q)
 
 within-above : (a e b : ℕ) → e < b → within a e b ≡ false
 within-above a e b p = nope (within a e b) (not-T (within a e b) (λ t. omega (arith, within-high a e b t)))
-
-differ : (a b : ℕ) → ¬ (a ≡ b) → eqb a b ≡ false
-differ a b n = nope (eqb a b) (not-T (eqb a b) (λ t. n (eqb→eq a b t)))
-
-above : (a b : ℕ) → b < a → leb a b ≡ false
-above a b p = nope (leb a b) (not-T (leb a b) (λ t. omega (arith, leb→le a b t)))
 
 -- ---- the second byte
 
@@ -56,9 +51,9 @@ second-tail a b t =
 second-plain : (a b : ℕ) → ¬ (a ≡ 0xE0) → ¬ (a ≡ 0xF0) → ¬ (a ≡ 0xED) → ¬ (a ≡ 0xF4) → T (tail b) → T (second a b)
 second-plain a b e0 f0 ed f4 t =
     let l : low a ≡ 0x80 =
-    ap (λ x. cond x 0xA0 (cond (eqb a 0xF0) 0x90 0x80)) (differ a 0xE0 e0) ∙ ap (λ x. cond x 0x90 0x80) (differ a 0xF0 f0) in
+    ap (λ x. cond x 0xA0 (cond (eqb a 0xF0) 0x90 0x80)) (ne-eqb a 0xE0 e0) ∙ ap (λ x. cond x 0x90 0x80) (ne-eqb a 0xF0 f0) in
     let h : high a ≡ 0xBF =
-    ap (λ x. cond x 0x9F (cond (eqb a 0xF4) 0x8F 0xBF)) (differ a 0xED ed) ∙ ap (λ x. cond x 0x8F 0xBF) (differ a 0xF4 f4) in
+    ap (λ x. cond x 0x9F (cond (eqb a 0xF4) 0x8F 0xBF)) (ne-eqb a 0xED ed) ∙ ap (λ x. cond x 0x8F 0xBF) (ne-eqb a 0xF4 f4) in
     within-so (low a) (high a) b (omega (arith, l, within-low 0x80 0xBF b t)) (omega (arith, h, within-high 0x80 0xBF b t))
 
 -- ---- how many bytes follow the first
@@ -76,7 +71,7 @@ more-one : (a : ℕ) → a ≤ 0x7F → more a ≡ 0
 more-one a p = ap (λ x. cond x 0 (from-c2 a)) (so (leb a 0x7F) (le→leb a 0x7F p))
 
 more-not-one : (a : ℕ) → 0x7F < a → more a ≡ from-c2 a
-more-not-one a p = ap (λ x. cond x 0 (from-c2 a)) (above a 0x7F p)
+more-not-one a p = ap (λ x. cond x 0 (from-c2 a)) (lt-leb a 0x7F p)
 
 more-two : (a : ℕ) → T (within 0xC2 0xDF a) → more a ≡ 1
 more-two a t =

@@ -49,17 +49,31 @@ decimal-step (suc n) h =
     digits-more n (suc n) h
     ∙ ap (λ (d : List ℕ). d ++ ((48 + suc n % 10) ∷ [])) (enough n (suc n / 10) (suc n / 10) (omega arith) (omega arith))
 
--- a number below ten to the k has at most k digits, and one at least
-few : (k n : ℕ) → n < 10 ^ suc k → length (decimal n) ≤ suc k
-few zero n h = rw (decimal-small n (omega arith)) (omega arith)
-few (suc k) n h = go (ltb n 10) refl (few k (n / 10) (omega arith))
+-- what holds of each digit, and of a number if it holds of it without its last digit, holds of every number
+module _ (P : ℕ → List ℕ → Type 0) (small : (d : ℕ) → d < 10 → P d ((48 + d) ∷ []))
+    (more : (n : ℕ) (s : List ℕ) → 10 ≤ n → P (n / 10) s → P n (s ++ ((48 + n % 10) ∷ []))) where
+  up-to : (k n : ℕ) → n ≤ k → P n (decimal n)
+  up-to zero n l = rw (decimal-small n (omega arith)) (small n (omega arith))
+  up-to (suc k) n l = go (ltb n 10) refl (up-to k (n / 10))
+    where
+      go : (t : Bool) → ltb n 10 ≡ t → (n / 10 ≤ k → P (n / 10) (decimal (n / 10))) → P n (decimal n)
+      go true e f = let h = ltb-true n 10 e in rw (decimal-small n h) (small n h)
+      go false e f = let h = ltb-false n 10 e in rw (decimal-step n h) (more n (decimal (n / 10)) h (f (omega arith)))
+
+  pub by-digits : (n : ℕ) → P n (decimal n)
+  by-digits n = up-to n n (omega arith)
+
+-- a number below a power of ten has no more digits than that
+pub few-digits : (k n : ℕ) → n < 10 ^ suc k → length (decimal n) ≤ suc k
+few-digits zero n h = rw (decimal-small n (omega arith)) (omega arith)
+few-digits (suc k) n h = go (ltb n 10) refl (few-digits k (n / 10) (omega arith))
   where
     go : (t : Bool) → ltb n 10 ≡ t → length (decimal (n / 10)) ≤ suc k → length (decimal n) ≤ suc (suc k)
     go true e r = rw (decimal-small n (ltb-true n 10 e)) (omega arith)
     go false e r = rw (decimal-step n (ltb-false n 10 e), length-append) (omega arith)
 
 pub decimal-few : (n : ℕ) → n < 4294967296 → length (decimal n) ≤ 10
-decimal-few n h = few 9 n (omega arith)
+decimal-few n h = few-digits 9 n (omega arith)
 
 -- ---- a number as it is written: of 32 bits it has at most ten digits
 

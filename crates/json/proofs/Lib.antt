@@ -7,5 +7,6 @@ pub mod Decimals
 pub mod Plain
 pub mod Characters
 pub mod Kept
+pub mod Shown
 pub mod Sound
 pub mod Encoded

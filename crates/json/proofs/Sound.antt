@@ -15,6 +15,7 @@ use Rattle.json.specs.Digits.{digits, decimal}
 use Rattle.json.specs.Text.{Json, string, number, array, rows, object, Items, nil, item, Members, done, _⨾_, Member, _⇒_, quoted, comma, text, items, lines, members, member}
 use Rattle.json.proofs.Characters.{within-high, within-so, apart}
 use Rattle.json.proofs.Kept.{must-most, escaped-so}
+use Rattle.json.proofs.Decimals.{by-digits}
 
 -- ---- strings
 
@@ -82,17 +83,10 @@ digits-more d t (Is.a-digit u h) = Is.a-digit u (digits-more d t h)
 lead-more : {s : List ℕ} (d : ℕ) → T (digit d) → Lead s → Lead (s ++ (d ∷ []))
 lead-more d t (lead u h) = lead u (digits-more d t h)
 
-digits-lead : (k n : ℕ) → 1 ≤ n → n ≤ k → Lead (digits k n)
-unfolding digits
-digits-lead zero n p q = let z : ⊥ = omega arith in absurd z
-digits-lead (suc k) n p q = go (ltb n 10) (ltb→lt n 10) (nltb→le n 10) (digits-lead k (n / 10))
-  where
-    go : (x : Bool) → (T x → n < 10) → (T (not x) → 10 ≤ n) → (1 ≤ n / 10 → n / 10 ≤ k → Lead (digits k (n / 10)))
-        → Lead (elim x as (λ y. List ℕ) [ true ↦ (48 + n) ∷ [] | false ↦ digits k (n / 10) ++ ((48 + n % 10) ∷ []) ])
-    go true f g h = let l = f tt in lead (within-so 0x31 0x39 (48 + n) (omega arith) (omega arith)) Is.no-digits
-    go false f g h =
-        let l = g tt in
-        lead-more (48 + n % 10) (within-so 0x30 0x39 (48 + n % 10) (omega arith) (omega arith)) (h (omega arith) (omega arith))
+decimal-lead : (n : ℕ) → 1 ≤ n → Lead (decimal n)
+decimal-lead n =
+    by-digits (λ m s. 1 ≤ m → Lead s) (λ d h p. lead (within-so 0x31 0x39 (48 + d) (omega arith) (omega arith)) Is.no-digits)
+    (λ m s h f p. lead-more (48 + m % 10) (within-so 0x30 0x39 (48 + m % 10) (omega arith) (omega arith)) (f (omega arith))) n
 
 lead-int : {s : List ℕ} → Lead s → Is Name.int s
 lead-int (lead t h) = Is.from-one t h
@@ -100,7 +94,7 @@ lead-int (lead t h) = Is.from-one t h
 decimal-int : (n : ℕ) → Is Name.int (decimal n)
 unfolding decimal digits
 decimal-int zero = Is.zero
-decimal-int (suc n) = lead-int (digits-lead (suc n) (suc n) (omega arith) (omega arith))
+decimal-int (suc n) = lead-int (decimal-lead (suc n) (omega arith))
 
 pub decimal-number : (n : ℕ) → Is Name.number (decimal n)
 decimal-number n =

@@ -3,7 +3,7 @@
 use Prim.Native.Nat.{ℕ}
 use mathlib.Core.Bool.{Bool, _||_}
 use mathlib.Core.List.{List, [], _∷_, _++_}
-use lib.Dec.{eqb, leb, T}
+use lib.Dec.{eqb, T}
 use Rattle.rules.specs.Codes.{ascii}
 use Rattle.json.specs.Utf8.{Char, within}
 

@@ -8,7 +8,6 @@ use libc::STDIN_FILENO;
 use libc::STDOUT_FILENO;
 use rules::Answer;
 use rules::Outcome;
-use rules::Refusal;
 use tree::Mode;
 
 fn text(s: &[u8]) {
@@ -93,11 +92,12 @@ fn listed(out: &[u32], n: usize) {
     text(b"\n");
 }
 
-fn refused(why: Refusal) {
+// A refusal's number and place.
+fn refused(why: usize, place: usize) {
     text(b"refused ");
-    number(why.number());
+    number(why);
     text(b" ");
-    number(why.place());
+    number(place);
     text(b"\n");
 }
 
@@ -109,7 +109,7 @@ pub fn list(t: &[u8], mode: Mode) {
     let o = a.outcome;
     match o {
         Outcome::Listed(n) => listed(&out, n),
-        Outcome::Refused(why) => refused(why),
+        Outcome::Refused(why) => refused(why.number(), why.place()),
     }
 }
 
@@ -119,19 +119,62 @@ fn unreadable() -> bool {
     libc::read(STDIN_FILENO, &mut more) < 0
 }
 
-// 01's listing program but for the mode: standard input whole, at most 49,152 bytes.
-pub fn list_input(mode: Mode) {
-    let mut bytes = [0u8; 49153];
-    let got = io::read_full(STDIN_FILENO, &mut bytes);
+// There is nothing to go on with: more than 49,152 bytes, or a read that failed. The user is told.
+fn unfit(got: usize) -> bool {
     if 49152 < got {
         text(b"too long\n");
-        return;
+        return true;
     }
     if unreadable() {
         io::write_all(STDERR_FILENO, b"standard input can't be read\n");
+        return true;
+    }
+    false
+}
+
+// 01's listing program but for the mode: standard input whole.
+pub fn list_input(mode: Mode) {
+    let mut bytes = [0u8; 49153];
+    let got = io::read_full(STDIN_FILENO, &mut bytes);
+    if unfit(got) {
         return;
     }
     list(&bytes[..got], mode);
+}
+
+// The log of a file in the lent room, with room for 2,048 records.
+fn log_in(log: &mut [u8], t: &[u8], mode: Mode) {
+    let mut work = [0u16; 32768];
+    let mut out = [0u32; 16384];
+    let a = sarif::sarif(t, mode, &mut work, &mut out, log);
+    let o = a.outcome;
+    match o {
+        sarif::Outcome::Logged(sizes) => logged(log, sizes.bytes),
+        sarif::Outcome::Refused(why) => refused(why.number(), why.place()),
+    }
+}
+
+// The log of a file: no log of 2,048 records has more than 4,482,641 bytes.
+fn log(t: &[u8], mode: Mode) {
+    let mut room = [0u8; 4482641];
+    log_in(&mut room, t, mode);
+}
+
+// The first n bytes of a log, which it has.
+fn logged(log: &[u8], n: usize) {
+    if n <= log.len() {
+        text(&log[..n]);
+    }
+}
+
+// The log of standard input, or what the listing says of it where it is refused or too long.
+pub fn log_input(mode: Mode) {
+    let mut bytes = [0u8; 49153];
+    let got = io::read_full(STDIN_FILENO, &mut bytes);
+    if unfit(got) {
+        return;
+    }
+    log(&bytes[..got], mode);
 }
 
 // The highest bit of a file's length asks for strict keys.

@@ -1,3 +1,4 @@
+-- The quotation marks and what stands between them. Assumes nothing.
 use Rattle.json.proofs.Pages.{then, retold}
 use Rattle.json.specs.Text.{quoted}
 use lib.ListN.{length}
@@ -7,10 +8,6 @@ use Prim.Native.Nat.{_+_, _*_}
 use borrow.Author.Needs.{needs}
 use Rattle.json.proofs.string.Statement.{statement}
 use Rattle.json.proofs.string.Tie as tie
-use Rattle.json.proofs.string.Reads as reads
-use Rattle.json.proofs.string.Lts as lts
-use Rattle.json.proofs.escaped.Reads as escaped-reads
-use Rattle.json.proofs.put.Reads as put-reads
 
 put-requires : tie.Need-put-requires
 put-requires c κs = search needs

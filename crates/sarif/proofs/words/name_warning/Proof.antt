@@ -1,0 +1,128 @@
+use mathlib.Core.Path.{_≡_}
+use Rattle.sarif.specs.Words.{phrase}
+use mathlib.Core.List.{_++_}
+use Rattle.json.proofs.Pages.{retold, nothing-wrote}
+use native.Mathlib.Omega.{arith}
+use borrow.Author.Needs.{needs}
+use Rattle.sarif.proofs.words.name_warning.Statement.{statement}
+use Rattle.sarif.proofs.words.name_warning.Tie as tie
+
+slice-aggregate-raw : tie.Need-slice-aggregate-raw
+slice-aggregate-raw c = search needs
+
+raw-requires : tie.Need-raw-requires
+raw-requires c κs = search needs
+
+slice-aggregate-raw-2 : tie.Need-slice-aggregate-raw-2
+slice-aggregate-raw-2 c = search needs
+
+raw-requires-2 : tie.Need-raw-requires-2
+raw-requires-2 c κs = search needs
+
+slice-aggregate-raw-3 : tie.Need-slice-aggregate-raw-3
+slice-aggregate-raw-3 c = search needs
+
+raw-requires-3 : tie.Need-raw-requires-3
+raw-requires-3 c κs = search needs
+
+slice-aggregate-raw-4 : tie.Need-slice-aggregate-raw-4
+slice-aggregate-raw-4 c = search needs
+
+raw-requires-4 : tie.Need-raw-requires-4
+raw-requires-4 c κs = search needs
+
+slice-aggregate-raw-5 : tie.Need-slice-aggregate-raw-5
+slice-aggregate-raw-5 c = search needs
+
+raw-requires-5 : tie.Need-raw-requires-5
+raw-requires-5 c κs = search needs
+
+slice-aggregate-raw-6 : tie.Need-slice-aggregate-raw-6
+slice-aggregate-raw-6 c = search needs
+
+raw-requires-6 : tie.Need-raw-requires-6
+raw-requires-6 c κs = search needs
+
+same-length : tie.Need-same-length
+same-length c = search needs
+
+returns : tie.Need-returns
+unfolding phrase
+returns c =
+    retold 60 (λ rest. phrase (c .before .before .before .before .before .before .before .args .code) ++ rest) (c .before .before .raw .ensures) (omega arith) (λ rest. rw (c .before .before .before .before .before .match .keys1))
+
+same-length-2 : tie.Need-same-length-2
+same-length-2 c = search needs
+
+returns-2 : tie.Need-returns-2
+unfolding phrase
+returns-2 c =
+    retold 60 (λ rest. phrase (c .before .before .before .before .before .before .before .args .code) ++ rest) (c .before .before .raw2 .ensures) (omega arith) (λ rest. rw (c .before .before .before .before .before .match .keys2))
+
+same-length-3 : tie.Need-same-length-3
+same-length-3 c = search needs
+
+returns-3 : tie.Need-returns-3
+unfolding phrase
+returns-3 c =
+    retold 60 (λ rest. phrase (c .before .before .before .before .before .before .before .args .code) ++ rest) (c .before .before .raw3 .ensures) (omega arith) (λ rest. rw (c .before .before .before .before .before .match .keys3))
+
+same-length-4 : tie.Need-same-length-4
+same-length-4 c = search needs
+
+returns-4 : tie.Need-returns-4
+unfolding phrase
+returns-4 c =
+    retold 60 (λ rest. phrase (c .before .before .before .before .before .before .before .args .code) ++ rest) (c .before .before .raw4 .ensures) (omega arith) (λ rest. rw (c .before .before .before .before .before .match .keys4))
+
+same-length-5 : tie.Need-same-length-5
+same-length-5 c = search needs
+
+returns-5 : tie.Need-returns-5
+unfolding phrase
+returns-5 c =
+    retold 60 (λ rest. phrase (c .before .before .before .before .before .before .before .args .code) ++ rest) (c .before .before .raw5 .ensures) (omega arith) (λ rest. rw (c .before .before .before .before .before .match .keys5))
+
+same-length-6 : tie.Need-same-length-6
+same-length-6 c = search needs
+
+returns-6 : tie.Need-returns-6
+unfolding phrase
+returns-6 c =
+    retold 60 (λ rest. phrase (c .before .before .before .before .before .before .before .args .code) ++ rest) (c .before .before .raw6 .ensures) (omega arith) (λ rest. rw (c .before .before .before .before .before .match .keys6))
+
+returns-7 : tie.Need-returns-7
+unfolding phrase
+returns-7 c =
+    let e : c .before .before .args .code ≡ 0 = omega (arith, c .before .before .pre, c .match .rest .1, c .match .rest .0 .1, c .match .rest .0 .0 .1, c .match .rest .0 .0 .0 .1, c .match .rest .0 .0 .0 .0 .1, c .match .rest .0 .0 .0 .0 .0 .1) in
+    retold 60 (λ rest. phrase (c .before .before .args .code) ++ rest) (nothing-wrote (c .before .before .args .out .now) (c .before .before .args .n)) (omega arith) (λ rest. rw e)
+
+pub name-warning-spec : {M : Type 1} → statement M
+name-warning-spec =
+    tie.close
+    (tie.spec
+    slice-aggregate-raw
+    raw-requires
+    slice-aggregate-raw-2
+    raw-requires-2
+    slice-aggregate-raw-3
+    raw-requires-3
+    slice-aggregate-raw-4
+    raw-requires-4
+    slice-aggregate-raw-5
+    raw-requires-5
+    slice-aggregate-raw-6
+    raw-requires-6
+    same-length
+    returns
+    same-length-2
+    returns-2
+    same-length-3
+    returns-3
+    same-length-4
+    returns-4
+    same-length-5
+    returns-5
+    same-length-6
+    returns-6
+    returns-7)
