@@ -30,7 +30,7 @@ PHRASES = {
     16: "Duplicate dictionary key",
     17: "Statement that does nothing or fails: variable",
 }
-KINDS = (" ", " string ", " bytes ", " integer ", " float ")
+KINDS = (" ", " string ", " bytes ", " integer 0x", " float of bytes ")
 # Words for the second span, then for the third.
 OTHERS = {
     7: ("the function", "why the function wants a value"),

@@ -1,4 +1,4 @@
-// JSON's text, written into lent bytes. Every function here is total: `n` bytes were written before, a byte for which there is no
+// JSON's text, written into lent bytes. Every public function is total: `n` bytes were written before, a byte for which there is no
 // room is only counted, and the count stays at the largest usize. Lent no room, a function tells how many bytes it would write.
 ghost use mathlib.Core.Path.{_≡_};
 ghost use mathlib.Core.List.{_∷_, _++_};

@@ -1,5 +1,5 @@
-// What the listing programs share: 01's listing of one file on standard input, and of many, each after its length.
-// No contract can say what is written, so the functions here promise to be safe and to end; the list itself is lint's.
+// What the printing programs share: 01's listing of one file on standard input, and of many, each after its length; a file's SARIF log.
+// No contract can say what is written, so the functions here promise to be safe and to end; the list is lint's, the log sarif's.
 ghost use Prim.Native.Nat.{_+_, _≤_};
 ghost use mathlib.Core.Path.{_≡_};
 ghost use lib.ListN.{length};

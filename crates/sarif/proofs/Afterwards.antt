@@ -16,7 +16,7 @@ use Rattle.tree.specs.declared.Judged.{Judged}
 use Rattle.tree.specs.declared.Judged.the-variants.{Valid, Refused as Unfit}
 use Rattle.tree.specs.declared.Mode.{Mode}
 use Rattle.rules.specs.Record.{Rec, all-words}
-use Rattle.rules.specs.Joined.{lint-list, no-tally}
+use Rattle.rules.specs.Joined.{lint-list, no-tally, tally-of}
 use Rattle.rules.specs.Outcome as lint
 use Rattle.rules.specs.Outcome.{names-answered, names-room-after, names-work-after}
 use Rattle.rules.specs.Afterwards as lint-after
@@ -26,7 +26,11 @@ use Rattle.rules.proofs.Called as called
 use Rattle.rules.proofs.Called.{one-result}
 use Rattle.spans.specs.Fit.{Each}
 use Rattle.spans.proofs.Whole.{file-fit}
-use Rattle.sarif.specs.Log.{log}
+use Rattle.json.specs.Utf8.{Utf8}
+use Rattle.json.specs.Grammar.{Name, Is}
+use Rattle.json.proofs.Sound.{json-text}
+use Rattle.json.proofs.Encoded.{json-utf8}
+use Rattle.sarif.specs.Log.{sarif-log, log}
 use Rattle.sarif.specs.Reader.{read, found}
 use Rattle.sarif.specs.Calls.{Done, numberOf, refusal, answer-by, work-by, room-by, output-by, sarif-of, sarif-call}
 use Rattle.sarif.specs.Afterwards.{Gives, given, Logs, Refuses, Logged-or-refused, logged, refused}
@@ -169,6 +173,11 @@ module _ (rs : List Rec) (t work room output : List ℕ) (a : Answer) (work′ r
 
 -- ---- the call
 
+-- every log is a JSON text
+pub log-json : (t : List ℕ) (rs : List Rec) → Is Name.JSON-text (log t rs)
+unfolding log
+log-json t rs = json-text (sarif-log t (tally-of rs) rs)
+
 -- what sarif's contract says is what the theorems below take
 pub promised : (mode : Mode) (t work room output : List ℕ) (a : Answer) (work′ room′ output′ : List ℕ)
     → _≡_ {A = Done} (record { answer = a; work = work′; room = room′; output = output′ }) (sarif-call mode t work room output)
@@ -196,6 +205,20 @@ module _ (mode : Mode) (t work room output : List ℕ) (a : Answer) (work′ roo
           rw (m, l .written) (read-back t rs (file-fit t (v .0) (v .1) mode))
       go (refused why l) = let z : _≡_ {A = ℕ} 0 1 = cc (l .outcome, i) in absurd (omega arith)
 
+  -- "Every output is a JSON text by RFC 8259's grammar", so in UTF-8: of the bytes that the call leaves
+  pub sarif-json : (n : Sizes) → a .outcome ≡ Logged n → Is Name.JSON-text (take (n .bytes) output′)
+  sarif-json n i = go logged-or-refused
+    where
+      rs : List Rec
+      rs = lint-list mode t
+
+      go : Logged-or-refused rs t work room output a work′ room′ output′ → Is Name.JSON-text (take (n .bytes) output′)
+      go (logged l) = let m : n .bytes ≡ length (log t rs) = cc (l .outcome, i) in rw (m, l .written) (log-json t rs)
+      go (refused why l) = let z : _≡_ {A = ℕ} 0 1 = cc (l .outcome, i) in absurd (omega arith)
+
+  pub sarif-utf8 : (n : Sizes) → a .outcome ≡ Logged n → Utf8 (take (n .bytes) output′)
+  sarif-utf8 n i = json-utf8 (sarif-json n i)
+
   -- "two outcomes that satisfy it are proved equal"
   pub sarif-one : (b : Answer) (work″ room″ output″ : List ℕ) → Gives (sarif-call mode t work room output) b work″ room″ output″
       → (a ≡ b) × (work′ ≡ work″) × (room′ ≡ room″) × (output′ ≡ output″)
@@ -203,7 +226,7 @@ module _ (mode : Mode) (t work room output : List ℕ) (a : Answer) (work′ roo
       (one-result (gives .0) (q .0), one-result (gives .1) (q .1), one-result (gives .2) (q .2), one-result (gives .3) (q .3))
 
   -- with room for k records, 1,617 + 2,188 k bytes are never too few: 4,482,641 for 2,048 records
-  pub output-enough : (k : ℕ) → length room ≤ 8 * k → 1617 + 2188 * k ≤ length output → Each (λ w. w < 4294967296) (all-words (lint-list mode t))
+  pub output-enough : (k : ℕ) → length room < 8 * k + 8 → 1617 + 2188 * k ≤ length output → Each (λ w. w < 4294967296) (all-words (lint-list mode t))
       → (n : ℕ) → a .outcome ≡ Refused (OutputRoom n) → ⊥
   output-enough k h l u n i =
       let d = short-of (lint-list mode t) t work room output a work′ room′ output′ gives n i in

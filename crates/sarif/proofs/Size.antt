@@ -40,19 +40,19 @@ use Rattle.sarif.proofs.TextSize.{size, items-size, lines-size, member-
 
 -- ---- what is said of a value
 
-kind-most : (k : ℕ) → weight (kind-word k) ≤ cond (leb k 2) 8 9
+kind-most : (k : ℕ) → weight (kind-word k) ≤ cond (leb k 2) 8 16
 unfolding kind-word
 kind-most k =
-    let q : ℕ → String → Bool = λ n w. leb (weight (ascii w)) (cond (leb n 2) 8 9) in
-    leb→le (weight (ascii (look k kinds ""))) (cond (leb k 2) 8 9)
-    (look-so q k kinds "" tt (le→leb 0 (cond (leb k 2) 8 9) (omega arith)))
+    let q : ℕ → String → Bool = λ n w. leb (weight (ascii w)) (cond (leb n 2) 8 16) in
+    leb→le (weight (ascii (look k kinds ""))) (cond (leb k 2) 8 16)
+    (look-so q k kinds "" tt (le→leb 0 (cond (leb k 2) 8 16) (omega arith)))
 
 -- "a string's byte takes at most six bytes", and a number's two of hexadecimal digits
 said-most : (v : Value) → length (v .bytes) ≤ 255 → weight (said v) ≤ 1538
 unfolding said shown
 said-most v h = rw (weight-append (kind-word (v .kind)) (shown v)) (go (leb (v .kind) 2) (kind-most (v .kind)))
   where
-    go : (b : Bool) → weight (kind-word (v .kind)) ≤ cond b 8 9 → weight (kind-word (v .kind)) + weight (cond b (v .bytes) (hexes (v .bytes))) ≤ 1538
+    go : (b : Bool) → weight (kind-word (v .kind)) ≤ cond b 8 16 → weight (kind-word (v .kind)) + weight (cond b (v .bytes) (hexes (v .bytes))) ≤ 1538
     go true k = omega (arith, weight-most (v .bytes))
     go false k = omega (arith, hexes-weight (v .bytes))
 

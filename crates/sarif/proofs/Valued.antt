@@ -95,10 +95,10 @@ module _ (t : List ℕ) (o n : ℕ) (h : Here t o) (b : n ≡ u16At t (o + 1)) w
       let e : o + 3 + n - (o + 3) ≡ n = omega arith in
       rw e (omega (arith, length-take n (drop (o + 3) t), h .short))
 
-  pub value-short-text : 9 + 6 * length (take (o + 3 + n - (o + 3)) (drop (o + 3) t)) ≤ 1540
+  pub value-short-text : 16 + 6 * length (take (o + 3 + n - (o + 3)) (drop (o + 3) t)) ≤ 1546
   value-short-text = let l = part-short in omega arith
 
-  pub value-short-number : 9 + 2 * length (take (o + 3 + n - (o + 3)) (drop (o + 3) t)) ≤ 1540
+  pub value-short-number : 16 + 2 * length (take (o + 3 + n - (o + 3)) (drop (o + 3) t)) ≤ 1546
   value-short-number = let l = part-short in omega arith
 
 -- ---- short names

@@ -22,9 +22,9 @@ phrases =
     ∷ (16, "Duplicate dictionary key") ∷ (17, "Statement that does nothing or fails: variable")
     ∷ []
 
--- 01's kinds of values, with the spaces around them
+-- 01's kinds of values, with the spaces around them; an integer's bytes are its digits of base 256, a float's stand as in the file
 abbrev pub kinds : List (ℕ × String)
-kinds = (0, " ") ∷ (1, " string ") ∷ (2, " bytes ") ∷ (3, " integer ") ∷ (4, " float ") ∷ []
+kinds = (0, " ") ∷ (1, " string ") ∷ (2, " bytes ") ∷ (3, " integer 0x") ∷ (4, " float of bytes ") ∷ []
 
 -- "second and third spans as related locations where a record has them": 01 gives codes 7, 8, 15 and 16 a second span, 7 a third
 abbrev pub seconds : List (ℕ × String)

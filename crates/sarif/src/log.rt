@@ -119,7 +119,7 @@ fn related(out: &mut [u8], n: usize, w: Words) -> usize
 // The value that starts at o.
 fn value(out: &mut [u8], n: usize, t: &[u8], o: usize) -> usize
     requires { ⌜ Here (now t) o ⌝ }
-    ensures { λ r. ⌜ Wrote (now (out .entry)) n (now (out .exit)) r 1540 (λ rest. escape 0 (said-of (valueFrom (now (t .entry)) o)) ++ rest) ⌝ }
+    ensures { λ r. ⌜ Wrote (now (out .entry)) n (now (out .exit)) r 1546 (λ rest. escape 0 (said-of (valueFrom (now (t .entry)) o)) ++ rest) ⌝ }
 {
     let kind = byte_at(t, o);
     let from = o + 3;
@@ -134,7 +134,7 @@ fn value(out: &mut [u8], n: usize, t: &[u8], o: usize) -> usize
 // What a record says of its value, if it has one.
 fn said(out: &mut [u8], n: usize, t: &[u8], starts: &[usize; 512], v: u32) -> usize
     requires { ⌜ Small (now t) × Starts (now t) (now starts) ⌝ }
-    ensures { λ r. ⌜ Wrote (now (out .entry)) n (now (out .exit)) r 1540 (λ rest. escape 0 (said-of (at (tableOf (now (t .entry))) v)) ++ rest) ⌝ }
+    ensures { λ r. ⌜ Wrote (now (out .entry)) n (now (out .exit)) r 1546 (λ rest. escape 0 (said-of (at (tableOf (now (t .entry))) v)) ++ rest) ⌝ }
 {
     let v = v as usize;
     if value_count(t) <= v {

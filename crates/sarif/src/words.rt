@@ -70,14 +70,14 @@ pub fn phrase(out: &mut [u8], n: usize, code: u32) -> usize
 
 // A value's kind, with the spaces around it.
 pub fn kind_word(out: &mut [u8], n: usize, kind: usize) -> usize
-    ensures { λ r. ⌜ Wrote (now (out .entry)) n (now (out .exit)) r 9 (λ rest. kind-word kind ++ rest) ⌝ }
+    ensures { λ r. ⌜ Wrote (now (out .entry)) n (now (out .exit)) r 16 (λ rest. kind-word kind ++ rest) ⌝ }
 {
     match kind {
         0 => raw(out, n, b" "),
         1 => raw(out, n, b" string "),
         2 => raw(out, n, b" bytes "),
-        3 => raw(out, n, b" integer "),
-        4 => raw(out, n, b" float "),
+        3 => raw(out, n, b" integer 0x"),
+        4 => raw(out, n, b" float of bytes "),
         _ => n,
     }
 }

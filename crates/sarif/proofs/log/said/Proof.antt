@@ -22,7 +22,7 @@ returns c =
     let t = c .before .before .before .before .args .t .now in
     let v = c .before .before .before .before .args .v in
     let e = at-past t v (omega (arith, c .before .value-count .ensures .0, c .if1 .taken)) in
-    retold 1540 (λ rest. escape 0 (said (at (tableOf t) v)) ++ rest) (nothing-wrote (c .before .before .before .before .args .out .now) (c .before .before .before .before .args .n)) (omega arith) (λ rest. rw e)
+    retold 1546 (λ rest. escape 0 (said (at (tableOf t) v)) ++ rest) (nothing-wrote (c .before .before .before .before .args .out .now) (c .before .before .before .before .args .n)) (omega arith) (λ rest. rw e)
 
 mul-value : tie.Need-mul-value
 mul-value c = search needs
@@ -49,7 +49,7 @@ returns-2 c =
     let small = c .before .before .before .before .before .before .before .before .before .pre .0 in
     let starts = c .before .before .before .before .before .before .before .before .before .pre .1 in
     let h : v < valueCount t = omega (arith, c .before .before .before .before .before .before .value-count .ensures .0, c .before .before .before .before .before .if1 .left) in
-    retold 1540 (λ rest. escape 0 (said (at (tableOf t) v)) ++ rest) (c .before .before .value .ensures) (omega arith) (λ rest. rw (starts .at-each v (omega (arith, small .few)), at-table t v h))
+    retold 1546 (λ rest. escape 0 (said (at (tableOf t) v)) ++ rest) (c .before .before .value .ensures) (omega arith) (λ rest. rw (starts .at-each v (omega (arith, small .few)), at-table t v h))
 
 pub said-spec : {M : Type 1} → statement M
 said-spec =

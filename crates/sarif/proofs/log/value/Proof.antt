@@ -46,7 +46,7 @@ returns c =
     let t = c .before .before .before .before .before .before .before .before .before .before .before .before .before .before .args .t .now in
     let o = c .before .before .before .before .before .before .before .before .before .before .before .before .before .before .args .o in
     let h = c .before .before .before .before .before .before .before .before .before .before .before .before .before .before .pre in
-    retold 1540 (λ rest. escape 0 (said (valueFrom t o)) ++ rest) (then (c .before .before .before .before .before .before .before .before .kind-word .ensures) (c .before .before .escaped .ensures)) (value-short-text t o (c .before .before .before .before .before .before .before .before .before .before .u16-at .result) h (c .before .before .before .before .before .before .before .before .before .before .u16-at .ensures .0)) (λ rest. value-text t o (c .before .before .before .before .before .before .before .before .before .before .before .byte-at .result) (c .before .before .before .before .before .before .before .before .before .before .u16-at .result) h (c .before .before .before .before .before .before .before .before .before .before .before .byte-at .ensures .0) (c .before .before .before .before .before .before .before .before .before .before .u16-at .ensures .0) (c .before .before .before .before .before .if1 .taken) rest)
+    retold 1546 (λ rest. escape 0 (said (valueFrom t o)) ++ rest) (then (c .before .before .before .before .before .before .before .before .kind-word .ensures) (c .before .before .escaped .ensures)) (value-short-text t o (c .before .before .before .before .before .before .before .before .before .before .u16-at .result) h (c .before .before .before .before .before .before .before .before .before .before .u16-at .ensures .0)) (λ rest. value-text t o (c .before .before .before .before .before .before .before .before .before .before .before .byte-at .result) (c .before .before .before .before .before .before .before .before .before .before .u16-at .result) h (c .before .before .before .before .before .before .before .before .before .before .before .byte-at .ensures .0) (c .before .before .before .before .before .before .before .before .before .before .u16-at .ensures .0) (c .before .before .before .before .before .if1 .taken) rest)
 
 sub-hexes : tie.Need-sub-hexes
 sub-hexes c = search needs
@@ -68,7 +68,7 @@ returns-2 c =
     let t = c .before .before .before .before .before .before .before .before .before .before .before .before .before .before .args .t .now in
     let o = c .before .before .before .before .before .before .before .before .before .before .before .before .before .before .args .o in
     let h = c .before .before .before .before .before .before .before .before .before .before .before .before .before .before .pre in
-    retold 1540 (λ rest. escape 0 (said (valueFrom t o)) ++ rest) (then (c .before .before .before .before .before .before .before .before .kind-word .ensures) (c .before .before .hexes .ensures)) (value-short-number t o (c .before .before .before .before .before .before .before .before .before .before .u16-at .result) h (c .before .before .before .before .before .before .before .before .before .before .u16-at .ensures .0)) (λ rest. value-number t o (c .before .before .before .before .before .before .before .before .before .before .before .byte-at .result) (c .before .before .before .before .before .before .before .before .before .before .u16-at .result) h (c .before .before .before .before .before .before .before .before .before .before .before .byte-at .ensures .0) (c .before .before .before .before .before .before .before .before .before .before .u16-at .ensures .0) (c .before .before .before .before .before .if1 .left) rest)
+    retold 1546 (λ rest. escape 0 (said (valueFrom t o)) ++ rest) (then (c .before .before .before .before .before .before .before .before .kind-word .ensures) (c .before .before .hexes .ensures)) (value-short-number t o (c .before .before .before .before .before .before .before .before .before .before .u16-at .result) h (c .before .before .before .before .before .before .before .before .before .before .u16-at .ensures .0)) (λ rest. value-number t o (c .before .before .before .before .before .before .before .before .before .before .before .byte-at .result) (c .before .before .before .before .before .before .before .before .before .before .u16-at .result) h (c .before .before .before .before .before .before .before .before .before .before .before .byte-at .ensures .0) (c .before .before .before .before .before .before .before .before .before .before .u16-at .ensures .0) (c .before .before .before .before .before .if1 .left) rest)
 
 pub value-spec : {M : Type 1} → statement M
 value-spec =

@@ -44,7 +44,7 @@ same-length c = search needs
 returns : tie.Need-returns
 unfolding kind-word
 returns c =
-    retold 9 (λ rest. kind-word (c .before .before .before .before .before .before .before .args .kind) ++ rest) (c .before .before .raw .ensures) (omega arith) (λ rest. rw (c .before .before .before .before .before .match .keys1))
+    retold 16 (λ rest. kind-word (c .before .before .before .before .before .before .before .args .kind) ++ rest) (c .before .before .raw .ensures) (omega arith) (λ rest. rw (c .before .before .before .before .before .match .keys1))
 
 same-length-2 : tie.Need-same-length-2
 same-length-2 c = search needs
@@ -52,7 +52,7 @@ same-length-2 c = search needs
 returns-2 : tie.Need-returns-2
 unfolding kind-word
 returns-2 c =
-    retold 9 (λ rest. kind-word (c .before .before .before .before .before .before .before .args .kind) ++ rest) (c .before .before .raw2 .ensures) (omega arith) (λ rest. rw (c .before .before .before .before .before .match .keys2))
+    retold 16 (λ rest. kind-word (c .before .before .before .before .before .before .before .args .kind) ++ rest) (c .before .before .raw2 .ensures) (omega arith) (λ rest. rw (c .before .before .before .before .before .match .keys2))
 
 same-length-3 : tie.Need-same-length-3
 same-length-3 c = search needs
@@ -60,7 +60,7 @@ same-length-3 c = search needs
 returns-3 : tie.Need-returns-3
 unfolding kind-word
 returns-3 c =
-    retold 9 (λ rest. kind-word (c .before .before .before .before .before .before .before .args .kind) ++ rest) (c .before .before .raw3 .ensures) (omega arith) (λ rest. rw (c .before .before .before .before .before .match .keys3))
+    retold 16 (λ rest. kind-word (c .before .before .before .before .before .before .before .args .kind) ++ rest) (c .before .before .raw3 .ensures) (omega arith) (λ rest. rw (c .before .before .before .before .before .match .keys3))
 
 same-length-4 : tie.Need-same-length-4
 same-length-4 c = search needs
@@ -68,7 +68,7 @@ same-length-4 c = search needs
 returns-4 : tie.Need-returns-4
 unfolding kind-word
 returns-4 c =
-    retold 9 (λ rest. kind-word (c .before .before .before .before .before .before .before .args .kind) ++ rest) (c .before .before .raw4 .ensures) (omega arith) (λ rest. rw (c .before .before .before .before .before .match .keys4))
+    retold 16 (λ rest. kind-word (c .before .before .before .before .before .before .before .args .kind) ++ rest) (c .before .before .raw4 .ensures) (omega arith) (λ rest. rw (c .before .before .before .before .before .match .keys4))
 
 same-length-5 : tie.Need-same-length-5
 same-length-5 c = search needs
@@ -76,12 +76,12 @@ same-length-5 c = search needs
 returns-5 : tie.Need-returns-5
 unfolding kind-word
 returns-5 c =
-    retold 9 (λ rest. kind-word (c .before .before .before .before .before .before .before .args .kind) ++ rest) (c .before .before .raw5 .ensures) (omega arith) (λ rest. rw (c .before .before .before .before .before .match .keys5))
+    retold 16 (λ rest. kind-word (c .before .before .before .before .before .before .before .args .kind) ++ rest) (c .before .before .raw5 .ensures) (omega arith) (λ rest. rw (c .before .before .before .before .before .match .keys5))
 
 returns-6 : tie.Need-returns-6
 returns-6 c =
     let h : 4 < c .before .before .args .kind = omega (arith, c .match .rest .1, c .match .rest .0 .1, c .match .rest .0 .0 .1, c .match .rest .0 .0 .0 .1, c .match .rest .0 .0 .0 .0 .1) in
-    retold 9 (λ rest. kind-word (c .before .before .args .kind) ++ rest) (nothing-wrote (c .before .before .args .out .now) (c .before .before .args .n)) (omega arith) (λ rest. rw (no-kind (c .before .before .args .kind) h))
+    retold 16 (λ rest. kind-word (c .before .before .args .kind) ++ rest) (nothing-wrote (c .before .before .args .out .now) (c .before .before .args .n)) (omega arith) (λ rest. rw (no-kind (c .before .before .args .kind) h))
 
 pub kind-word-spec : {M : Type 1} → statement M
 kind-word-spec =
