@@ -7,12 +7,12 @@ use mathlib.Core.Bool.{Bool, true, false}
 use lib.Dec.{eqb}
 use borrow.Author.Tests.{eq-eqb}
 use Rattle.tree.specs.Bytes.{kindAt, roleAt, sizeAt}
-use Rattle.tree.specs.Forest.{Spot, Head, Forest, none, node, spotAt, headAt, forestOf, Part}
-use Rattle.tree.specs.Find.{childOf, from-role}
+use Rattle.tree.specs.Forest.{Spot, Head, Forest, none, node, spotAt, headAt, forestOf}
+use Rattle.tree.specs.code.Part.{Part}
+use Rattle.tree.specs.code.Find.{childOf, from-role}
 use Rattle.tree.proofs.Laws.{forest-none, forest-node}
 use Rattle.tree.proofs.Find.{child-le, child-role, child-part, child-forest}
-use Rattle.rules.specs.Flow.{place}
-use Rattle.rules.specs.Incompatible.{kind-at, under}
+use Rattle.rules.specs.Visit.{spot-at, kind-at, under}
 
 -- v asks something of the first node of role r: A of its head and children, z where there is none
 module _ {B : Type 0} (r : ℕ) (v : Forest → B) (A : Head → Forest → B) (z : B) (nil : v none ≡ z)
@@ -44,9 +44,9 @@ module _ (r : ℕ) {t : List ℕ} {i e : ℕ} (p : Part t i e) (h : i ≤ e) (lt
   unfolding headAt
   kind-there = there r (kind-at r) (λ g k. g .kind) 0 refl (λ g k s b. rw (b, kind-at)) (λ g k s b. rw (b, kind-at)) p h lt
 
-  pub place-there : place r (forestOf t i e) ≡ spotAt t (childOf t r i e)
+  pub place-there : spot-at r (forestOf t i e) ≡ spotAt t (childOf t r i e)
   unfolding headAt
-  place-there = there r (place r) (λ g k. g .spot) (record { begin = 0; end = 0; value = 0 }) refl (λ g k s b. rw (b, place)) (λ g k s b. rw (b, place)) p h lt
+  place-there = there r (spot-at r) (λ g k. g .spot) (record { begin = 0; end = 0; value = 0 }) refl (λ g k s b. rw (b, spot-at)) (λ g k s b. rw (b, spot-at)) p h lt
 
   pub under-there : under r (forestOf t i e) ≡ forestOf t (childOf t r i e + 1) (childOf t r i e + sizeAt t (childOf t r i e))
   under-there = there r (under r) (λ g k. k) none refl (λ g k s b. rw (b, under)) (λ g k s b. rw (b, under)) p h lt

@@ -3,9 +3,10 @@ use Prim.Native.Nat.{ℕ, _+_, _≤_, _<_}
 use mathlib.Core.Path.{_≡_, refl, sym}
 use mathlib.Core.List.{List, [], _++_, append-assoc}
 use Rattle.tree.specs.Bytes.{sizeAt}
-use Rattle.tree.specs.Forest.{Head, Forest, node, headAt, forestOf, Part}
+use Rattle.tree.specs.Forest.{Head, Forest, node, headAt, forestOf}
+use Rattle.tree.specs.code.Part.{Part}
 use Rattle.rules.specs.Record.{Rec}
-use Rattle.rules.specs.Incompatible.{each}
+use Rattle.rules.specs.Visit.{each}
 use Rattle.answer.proofs.Flat.{past, next}
 
 each-cons : (f : Head → Forest → List Rec) (h : Head) (k s : Forest) → each f (node h k s) ≡ (f h k ++ each f k) ++ each f s

@@ -5,7 +5,8 @@ use native.Mathlib.Decide.{decLt}
 use mathlib.Core.Path.{_≡_, refl, sym, ap, _∙_}
 use mathlib.Core.List.{List, [], _∷_, _++_, append-assoc}
 use Rattle.tree.specs.Bytes.{sizeAt}
-use Rattle.tree.specs.Forest.{Head, Forest, none, node, headAt, forestOf, Part}
+use Rattle.tree.specs.Forest.{Head, Forest, none, node, headAt, forestOf}
+use Rattle.tree.specs.code.Part.{Part}
 use Rattle.tree.proofs.Laws.{later, sized, ended, kids, first, rest, forest-none, forest-node}
 use Rattle.rules.specs.Record.{Rec}
 use lib.ListN.{length}

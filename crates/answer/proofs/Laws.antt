@@ -1,15 +1,15 @@
 -- Laws of records written one after the other. Assumes nothing.
-use Prim.Native.Nat.{ℕ, _+_, _*_, _/_, _≤_, _<_}
+use Prim.Native.Nat.{ℕ, _+_, _*_, _/_, _≤_}
 use native.Mathlib.Omega.{arith}
-use mathlib.Core.Path.{_≡_, refl, sym, ap, _∙_}
+use mathlib.Core.Path.{_≡_, refl, _∙_}
 use mathlib.Core.List.{List, [], _∷_, _++_}
 use mathlib.Core.Bool.{Bool, true, false}
-use lib.ListN.{length, length-set}
+use lib.ListN.{length, set, length-set}
 use lib.Dec.{ltb}
 use borrow.Author.Tests.{lt-ltb}
-use Rattle.rules.specs.Record.{Rec}
-use Rattle.rules.specs.Joined.{one-more, raise, raise-all}
-use Rattle.answer.specs.Page.{Page, store, stored, write, writes}
+use Rattle.rules.specs.Record.{Rec, width, words}
+use Rattle.rules.specs.Joined.{one-more, raise-all}
+use Rattle.answer.specs.Page.{Page, lay, stored, write, writes}
 
 pub writes-none : (p : Page) → writes p [] ≡ p
 unfolding writes
@@ -28,12 +28,17 @@ unfolding writes
 writes-append p [] ys = refl
 writes-append p (x ∷ xs) ys = writes-append (write p x) xs ys
 
+length-lay : (ws o : List ℕ) (a : ℕ) → length (lay o a ws) ≡ length o
+unfolding lay
+length-lay [] o a = refl
+length-lay (w ∷ ws) o a = length-lay ws (set o a w) (a + 1) ∙ length-set o a w
+
 pub length-stored : (o : List ℕ) (n : ℕ) (r : Rec) → length (stored o n r) ≡ length o
-unfolding stored store
-length-stored o n r = go (ltb n (length o / 8))
+unfolding stored
+length-stored o n r = go (ltb n (length o / width))
   where
-    go : (b : Bool) → length {A = ℕ} (elim b [ true ↦ store o (8 * n) r | false ↦ o ]) ≡ length o
-    go true = simp length-set
+    go : (b : Bool) → length {A = ℕ} (elim b [ true ↦ lay o (width * n) (words r) | false ↦ o ]) ≡ length o
+    go true = length-lay (words r) o (width * n)
     go false = refl
 
 pub writes-length : (p : Page) (rs : List Rec) → length (writes p rs .out) ≡ length (p .out)

@@ -1,17 +1,16 @@
 -- What the returns of answer's functions show. Assumes nothing.
 use Prim.Native.Nat.{ℕ, suc, _+_, _-_, _≤_, _<_}
 use native.Mathlib.Omega.{arith}
-use mathlib.Core.Path.{_≡_, refl, sym, ap, _∙_}
-use mathlib.Core.List.{List, [], _∷_}
+use mathlib.Core.Path.{_≡_, ap, _∙_}
+use mathlib.Core.List.{List}
 use lib.ListN.{length, set, getD}
 use lib.Seq.{set-out}
-use Rattle.tree.specs.Forest.{spotAt}
-use Rattle.rules.specs.Record.{Rec}
+use Rattle.rules.specs.Record.{Rec, words}
 use Rattle.rules.specs.Joined.{one-more, raise}
 use Rattle.answer.specs.declared.Note.{Note}
 use Rattle.answer.specs.declared.Place.the-variants.{Node}
 use Rattle.answer.specs.declared.Sheet.{Sheet}
-use Rattle.answer.specs.Page.{stored, write, page}
+use Rattle.answer.specs.Page.{lay, stored, write, page}
 use Rattle.answer.specs.Note.{spanOf, valueOf, recOf, recFrom}
 
 pub words-done : (t : List ℕ) (n : Note) {b e v b2 e2 b3 e3 : ℕ}
@@ -41,3 +40,18 @@ unfolding raise
 raise-one c ns v h e =
     let q : suc (c - 1) ≡ c = omega arith in
     ap (set ns (c - 1)) e ∙ ap (λ (x : ℕ). raise x ns) q
+
+-- the words of a record stored one by one
+pub laid-out : (o : List ℕ) (a : ℕ) (r : Rec)
+    → lay o a (words r)
+    ≡ set (set (set (set (set (set (set (set o a (r .code)) (a + 1) (r .spot .begin)) (a + 2) (r .spot .end)) (a + 3) (r .spot .value))
+    (a + 4) (r .second .begin)) (a + 5) (r .second .end)) (a + 6) (r .third .begin)) (a + 7) (r .third .end)
+unfolding lay
+laid-out o a r =
+    let two : a + 1 + 1 ≡ a + 2 = omega arith in
+    let three : a + 2 + 1 ≡ a + 3 = omega arith in
+    let four : a + 3 + 1 ≡ a + 4 = omega arith in
+    let five : a + 4 + 1 ≡ a + 5 = omega arith in
+    let six : a + 5 + 1 ≡ a + 6 = omega arith in
+    let seven : a + 6 + 1 ≡ a + 7 = omega arith in
+    rw (two, three, four, five, six, seven)

@@ -2,4 +2,3 @@
 pub mod Page
 pub mod Note
 pub mod Refuse
-pub mod Walk

@@ -4,19 +4,18 @@ use mathlib.Core.List.{List, [], _∷_}
 use mathlib.Core.Bool.{true, false}
 use lib.ListN.{length, set}
 use lib.Dec.{ltb}
-use Rattle.rules.specs.Record.{Rec}
+use Rattle.rules.specs.Record.{Rec, width, words}
 use Rattle.rules.specs.Joined.{one-more, raise}
 use Rattle.answer.specs.declared.Sheet.{Sheet}
 
--- the record's eight words from word a on
-unfoldable pub store : List ℕ → ℕ → Rec → List ℕ
-store o a r =
-    set (set (set (set (set (set (set (set o a (r .code)) (a + 1) (r .spot .begin)) (a + 2) (r .spot .end)) (a + 3) (r .spot .value))
-    (a + 4) (r .second .begin)) (a + 5) (r .second .end)) (a + 6) (r .third .begin)) (a + 7) (r .third .end)
+-- words one after the other, from word a on
+unfoldable pub lay : List ℕ → ℕ → List ℕ → List ℕ
+lay o a [] = o
+lay o a (w ∷ ws) = lay (set o a w) (a + 1) ws
 
 -- the n-th record stored, where there is room for it
 unfoldable pub stored : List ℕ → ℕ → Rec → List ℕ
-stored o n r = elim (ltb n (length o / 8)) [ true ↦ store o (8 * n) r | false ↦ o ]
+stored o n r = elim (ltb n (length o / width)) [ true ↦ lay o (width * n) (words r) | false ↦ o ]
 
 pub record Page : Type 0 where
   pub out : List ℕ

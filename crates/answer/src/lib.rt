@@ -1,4 +1,4 @@
-// What a pass writes: records of eight words into a lent slice, and a tally of seventeen counts.
+// What a pass writes: records into a lent slice, and a tally of counts.
 // Every function here is total: a record for which there is no room is only counted, and a count stays at the largest usize.
 ghost use mathlib.Core.Path.{_≡_};
 ghost use Prim.Native.Nat.{ℕ, _<_};
@@ -9,8 +9,10 @@ ghost use Rattle.answer.specs.Page.{stored, write, page};
 ghost use Rattle.answer.specs.Note.{spanOf, valueOf, recOf, recFrom};
 ghost use Rattle.answer.specs.Refuse.{refusalOf};
 use rules::Answer;
+use rules::CODES;
 use rules::Outcome;
 use rules::Refusal;
+use rules::WIDTH;
 use tree::Judged;
 use tree::bytes::begin_at;
 use tree::bytes::end_at;
@@ -34,7 +36,7 @@ pub struct Note {
 // How many records there are so far, and how many of each code.
 pub struct Sheet {
     pub count: usize,
-    pub tally: [usize; 17],
+    pub tally: [usize; CODES],
 }
 
 pub struct Words {
@@ -71,7 +73,7 @@ fn raise_at(counts: &mut [usize], code: usize)
 }
 
 // The tally with the count of one code raised.
-pub fn raised(tally: [usize; 17], code: u32) -> [usize; 17]
+pub fn raised(tally: [usize; CODES], code: u32) -> [usize; CODES]
     ensures { λ r. ⌜ r ≡ raise code tally ⌝ }
 {
     let mut counts = tally;
@@ -135,8 +137,8 @@ fn words_of(t: &[u8], n: Note) -> Words
 fn emit(out: &mut [u32], n: usize, r: Words)
     ensures { λ _. ⌜ now (out .exit) ≡ stored (now (out .entry)) n (recFrom r) ⌝ }
 {
-    if n < out.len() / 8 {
-        let a = 8 * n;
+    if n < out.len() / WIDTH {
+        let a = WIDTH * n;
         out[a] = r.code;
         out[a + 1] = r.begin;
         out[a + 2] = r.end;
@@ -181,7 +183,7 @@ pub fn put_plainly(t: &[u8], out: &mut [u32], s: Sheet, code: u32, i: usize) -> 
 }
 
 // Nothing written yet, with the counts of the passes before.
-pub fn started(tally: [usize; 17]) -> Sheet
+pub fn started(tally: [usize; CODES]) -> Sheet
     ensures { λ r. ⌜ (r .count ≡ 0) × (r .tally ≡ tally) ⌝ }
 {
     Sheet { count: 0, tally }
@@ -191,7 +193,7 @@ pub fn started(tally: [usize; 17]) -> Sheet
 pub fn refused(why: Refusal) -> Answer
     ensures { λ r. ⌜ (r .outcome ≡ Outcome.Refused why) × (r .tally ≡ no-tally) ⌝ }
 {
-    let zero = [0; 17];
+    let zero = [0; CODES];
     Answer {
         outcome: Outcome::Refused(why),
         tally: zero,

@@ -9,11 +9,13 @@ use lib.Dec.{T, eqb}
 use lib.ListN.{length, getD}
 use borrow.Author.Tests.{ne-eqb}
 use Rattle.tree.specs.Bytes.{nodeCount, valueCount, kindAt, roleAt, sizeAt, valueAt}
-use Rattle.tree.specs.Forest.{Spot, Head, Forest, none, node, spotAt, headAt, forestOf, treeOf, Part}
+use Rattle.tree.specs.Forest.{Spot, Head, Forest, none, node, spotAt, headAt, forestOf, treeOf}
+use Rattle.tree.specs.code.Part.{Part}
 use Rattle.tree.specs.Judge.{judged}
-use Rattle.tree.specs.Sound.{Sound}
+use Rattle.tree.specs.code.Sound.{Sound}
 use Rattle.tree.specs.Keys.{Likeness, different, same-form, same-number, alike, like, same-key}
-use Rattle.tree.specs.Table.{tableOf, at, key-number, KeyNumbers}
+use Rattle.tree.specs.Table.{tableOf, at}
+use Rattle.tree.specs.code.Numbers.{key-number, KeyNumbers}
 use Rattle.tree.specs.declared.Mode.{Mode}
 use Rattle.tree.specs.declared.Facts.{Facts}
 use Rattle.tree.specs.declared.Judged.the-variants.{Valid}
@@ -22,7 +24,7 @@ use Rattle.tree.proofs.Whole.{sound, whole-part}
 use Rattle.tree.proofs.Entries.{names-fit, value-among-names, value-past-names}
 use Rattle.tree.proofs.KeyTable.{same-key-number}
 use Rattle.rules.specs.Record.{Rec, listed}
-use Rattle.rules.specs.Incompatible.{each}
+use Rattle.rules.specs.Visit.{each}
 use Rattle.rules.specs.Dubious.{keys, double, clash, against, doubles, dict-at, idle-at, unsaid, dubious, dubious-list}
 use Rattle.rules.proofs.Few.{dubious-list-few}
 use Rattle.answer.proofs.Whole.{few-nodes}

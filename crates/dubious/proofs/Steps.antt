@@ -9,12 +9,12 @@ use lib.Dec.{eqb, ltb}
 use lib.ListN.{length, getD}
 use borrow.Author.Tests.{eq-eqb, ne-eqb, lt-ltb, le-ltb}
 use Rattle.tree.specs.Bytes.{kindAt, roleAt, sizeAt, valueAt, pick}
-use Rattle.tree.specs.Forest.{Spot, Head, Forest, none, node, spotAt, headAt, forestOf, Part}
+use Rattle.tree.specs.Forest.{Spot, Head, Forest, none, node, spotAt, headAt, forestOf}
+use Rattle.tree.specs.code.Part.{Part, Subtree}
 use Rattle.tree.specs.Keys.{Likeness, different, same-form}
-use Rattle.tree.specs.Find.{childOf}
+use Rattle.tree.specs.code.Find.{childOf}
 use Rattle.rules.specs.Record.{Rec, named-at, listed}
-use Rattle.rules.specs.Flow.{place}
-use Rattle.rules.specs.Incompatible.{each, kind-at}
+use Rattle.rules.specs.Visit.{spot-at, each, kind-at}
 use Rattle.rules.specs.Dubious.{keys, double, clash, against, doubles, unsaid, dict-at, idle-at}
 use Rattle.tree.proofs.Laws.{sized, first, kids}
 use Rattle.answer.specs.Page.{Page, write, writes}
@@ -23,7 +23,6 @@ use Rattle.answer.proofs.Flat.{past, over, split}
 use Rattle.answer.proofs.Bits.{eqb-swap, and-false}
 use Rattle.answer.proofs.ByRole.{kind-there, kind-absent, place-there}
 use Rattle.dubious.specs.Scan.{keyed, is-key, before, seen, doubled, clashes}
-use Rattle.answer.specs.Walk.{Whole}
 
 -- ---- is-key
 
@@ -175,7 +174,7 @@ dict-start ns t i e = rw (keys-past t i i (omega arith))
 
 -- ---- 17: node i, its children up to e, the first of role 4 at j
 
-module _ (t : List ℕ) (i e j : ℕ) (w : Whole t i) (p : Page) where
+module _ (t : List ℕ) (i e j : ℕ) (w : Subtree t i) (p : Page) where
   abbrev pub idle-recs : List Rec
   idle-recs = idle-at (headAt t i) (forestOf t (i + 1) (i + sizeAt t i))
 
@@ -205,7 +204,7 @@ module _ (t : List ℕ) (i e j : ℕ) (w : Whole t i) (p : Page) where
     idle-put a h k u =
         let z : kind-at 4 (forestOf t (i + 1) (i + sizeAt t i)) ≡ 20
         = kind-there 4 below (omega (arith, w .some)) (rw (ej, ee) at h) ∙ (rw (ej, ee) at k) in
-        let y : place 4 (forestOf t (i + 1) (i + sizeAt t i)) ≡ spotAt t j
+        let y : spot-at 4 (forestOf t (i + 1) (i + sizeAt t i)) ≡ spotAt t j
         = place-there 4 below (omega (arith, w .some)) (rw (ej, ee) at h) ∙ rw (ej, ee) in
         rw (a, z, y) (u ∙ sym (writes-one p _))
 

@@ -6,7 +6,8 @@ use mathlib.Core.List.{List, [], _∷_}
 use lib.Dec.{eqb, ltb}
 use lib.ListN.{getD}
 use Rattle.tree.specs.Bytes.{sizeAt, valueAt, pick}
-use Rattle.tree.specs.Forest.{Spot, Head, Forest, spotAt, headAt, forestOf, Part}
+use Rattle.tree.specs.Forest.{Spot, Head, Forest, spotAt, headAt, forestOf}
+use Rattle.tree.specs.code.Part.{Part}
 use Rattle.tree.specs.Keys.{Likeness, different, same-form}
 use Rattle.rules.specs.Record.{Rec, listed}
 use Rattle.rules.specs.Dubious.{keys, double, against, unsaid}

@@ -7,15 +7,15 @@ ghost use lib.Dec.{eqb};
 ghost use lib.ListN.{getD};
 ghost use mathlib.Core.Bool.{_&&_};
 ghost use Rattle.tree.specs.Bytes.{sizeAt, valueAt, pick};
-ghost use Rattle.tree.specs.Forest.{headAt, forestOf, Part};
+ghost use Rattle.tree.specs.Forest.{headAt, forestOf};
+ghost use Rattle.tree.specs.code.Part.{Part, Subtree};
 ghost use Rattle.tree.specs.Judge.{judged};
 ghost use Rattle.tree.specs.declared.Judged.the-variants.{Valid};
 ghost use Rattle.rules.specs.Record.{listed};
-ghost use Rattle.rules.specs.Incompatible.{each};
-ghost use Rattle.rules.specs.Dubious.{keys, doubles, dict-at, idle-at, unsaid, dubious, dubious-list};
-ghost use Rattle.rules.specs.Outcome.{answered, room-after};
+ghost use Rattle.rules.specs.Visit.{each};
+ghost use Rattle.rules.specs.Dubious.{keys, doubles, dict-at, idle-at, unsaid, dubious};
+ghost use Rattle.rules.specs.Calls.{dubious-call};
 ghost use Rattle.answer.specs.Page.{writes, page};
-ghost use Rattle.answer.specs.Walk.{Whole};
 ghost use Rattle.dubious.specs.Scan.{keyed, is-key, doubled, clashes};
 use answer::Note;
 use answer::Place;
@@ -23,7 +23,9 @@ use answer::Sheet;
 use answer::put;
 use answer::started;
 use rules::Answer;
+use rules::CODES;
 use rules::Refusal;
+use rules::WIDTH;
 use tree::Facts;
 use tree::Judged;
 use tree::Mode;
@@ -31,15 +33,10 @@ use tree::bytes::kind_at;
 use tree::bytes::role_at;
 use tree::bytes::size_at;
 use tree::bytes::value_at;
+use tree::bytes::widen;
 use tree::children::child_of;
 use tree::judge;
 use tree::keys::key_numbers;
-
-fn wide(x: u16) -> usize
-    ensures { λ r. ⌜ r ≡ x ⌝ }
-{
-    x as usize
-}
 
 // The number that stands for the key at node j.
 fn key_at(t: &[u8], numbers: &[u16], j: usize) -> usize
@@ -47,7 +44,7 @@ fn key_at(t: &[u8], numbers: &[u16], j: usize) -> usize
 {
     let v = value_at(t, j);
     if v < numbers.len() {
-        return wide(numbers[v]);
+        return widen(numbers[v]);
     }
     0
 }
@@ -132,7 +129,7 @@ fn dict(t: &[u8], numbers: &[u16], i: usize, e: usize, out: &mut [u32], s: Sheet
 }
 
 fn expr(t: &[u8], numbers: &[u16], i: usize, out: &mut [u32], s: Sheet) -> Sheet
-    requires { ⌜ Whole (now t) i ⌝ }
+    requires { ⌜ Subtree (now t) i ⌝ }
     ensures { λ r. ⌜ page (now (out .exit)) r ≡ writes (page (now (out .entry)) s) (dict-at (keyed (now (numbers .entry))) unsaid (headAt (now (t .entry)) i) (forestOf (now (t .entry)) (i + 1) (i + sizeAt (now (t .entry)) i))) ⌝ }
 {
     if kind_at(t, i) == 29 {
@@ -156,7 +153,7 @@ fn duplicate_dictionary_key(t: &[u8], numbers: &[u16], n: usize, out: &mut [u32]
 }
 
 fn stmt(t: &[u8], i: usize, out: &mut [u32], s: Sheet) -> Sheet
-    requires { ⌜ Whole (now t) i ⌝ }
+    requires { ⌜ Subtree (now t) i ⌝ }
     ensures { λ r. ⌜ page (now (out .exit)) r ≡ writes (page (now (out .entry)) s) (idle-at (headAt (now (t .entry)) i) (forestOf (now (t .entry)) (i + 1) (i + sizeAt (now (t .entry)) i))) ⌝ }
 {
     if kind_at(t, i) != 5 {
@@ -208,23 +205,23 @@ fn lint(t: &[u8], numbers: &[u16], n: usize, out: &mut [u32], s: Sheet) -> Sheet
 
 // The whole pass over a valid file, f its facts: counted first, into no room, and written where there is room for all.
 // It requires the judgement, so that the joined call judges a file once.
-pub fn lint_valid(t: &[u8], f: Facts, mode: Mode, out: &mut [u32], tally: [usize; 17]) -> Answer
+pub fn lint_valid(t: &[u8], f: Facts, mode: Mode, out: &mut [u32], tally: [usize; CODES]) -> Answer
     requires { ⌜ judged (now t) ≡ Valid f ⌝ }
-    ensures { λ r. ⌜ (r ≡ answered (judged (now (t .entry))) (dubious-list mode (now (t .entry))) (now (out .entry)) tally) × (now (out .exit) ≡ room-after (judged (now (t .entry))) (dubious-list mode (now (t .entry))) (now (out .entry))) ⌝ }
+    ensures { λ r. ⌜ record { answer = r; room = now (out .exit) } ≡ dubious-call mode (now (t .entry)) (now (out .entry)) tally ⌝ }
 {
     let n = f.nodes;
     let numbers = key_numbers(t, mode);
     let c = lint(t, &numbers, n, &mut out[..0], started(tally));
     let records = c.count;
-    if out.len() / 8 < records {
+    if out.len() / WIDTH < records {
         return answer::refused(Refusal::AnswerRoom(records));
     }
     answer::listed(lint(t, &numbers, n, out, started(tally)))
 }
 
 // The whole pass, on any bytes.
-pub fn dubious(t: &[u8], mode: Mode, out: &mut [u32], tally: [usize; 17]) -> Answer
-    ensures { λ r. ⌜ (r ≡ answered (judged (now (t .entry))) (dubious-list mode (now (t .entry))) (now (out .entry)) tally) × (now (out .exit) ≡ room-after (judged (now (t .entry))) (dubious-list mode (now (t .entry))) (now (out .entry))) ⌝ }
+pub fn dubious(t: &[u8], mode: Mode, out: &mut [u32], tally: [usize; CODES]) -> Answer
+    ensures { λ r. ⌜ record { answer = r; room = now (out .exit) } ≡ dubious-call mode (now (t .entry)) (now (out .entry)) tally ⌝ }
 {
     let j = judge(t);
     let Judged::Valid(f) = j else {

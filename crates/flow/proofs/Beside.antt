@@ -4,7 +4,8 @@ use native.Mathlib.Omega.{arith}
 use mathlib.Core.Path.{_≡_, sym, ap, _∙_}
 use mathlib.Core.List.{List}
 use Rattle.tree.specs.Bytes.{sizeAt}
-use Rattle.tree.specs.Forest.{Forest, none, node, headAt, forestOf, Part}
+use Rattle.tree.specs.Forest.{Forest, none, node, headAt, forestOf}
+use Rattle.tree.specs.code.Part.{Part}
 use Rattle.tree.proofs.Laws.{sized, ended, kids, rest, forest-none, forest-node, induct}
 use Rattle.answer.proofs.Flat.{joined}
 

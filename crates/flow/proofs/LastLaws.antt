@@ -7,10 +7,10 @@ use mathlib.Core.List.{List}
 use lib.Dec.{eqb}
 use borrow.Author.Tests.{lt-ltb, le-ltb}
 use Rattle.tree.specs.Bytes.{roleAt, sizeAt, pick}
-use Rattle.tree.specs.Forest.{Head, Forest, Forest.none as leaf, node, headAt, forestOf, Part}
+use Rattle.tree.specs.Forest.{Head, Forest, Forest.none as leaf, node, headAt, forestOf}
+use Rattle.tree.specs.code.Part.{Part}
 use Rattle.tree.proofs.Laws.{forest-none, forest-node}
-use Rattle.rules.specs.Order.{has}
-use Rattle.rules.specs.Flow.{last-of}
+use Rattle.rules.specs.Visit.{has, last-of}
 use Rattle.flow.specs.Returns.{later-of, last-node, node-if, Last}
 
 later-later : (a b x : Forest) → later-of (later-of a b) x ≡ later-of a (later-of b x)

@@ -10,3 +10,4 @@ pub mod Forms
 pub mod Steps
 pub mod Tails
 pub mod Reaching
+pub mod Promised

@@ -11,9 +11,11 @@ use borrow.Author.Tests.{lt-ltb, le-ltb}
 use Rattle.tree.specs.Bytes.{nodeCount}
 use Rattle.tree.specs.Forest.{forestOf, treeOf}
 use Rattle.tree.specs.Judge.{judged}
-use Rattle.tree.specs.Table.{tableOf, spells, numberNamed, a-string, Traits}
+use Rattle.tree.specs.Table.{tableOf, spells, a-string}
+use Rattle.tree.specs.code.Numbers.{numberNamed, Traits}
 use Rattle.tree.specs.declared.Facts.{Facts}
 use Rattle.tree.specs.declared.Judged.the-variants.{Valid}
+use Rattle.tree.proofs.Fields.{part-small}
 use Rattle.tree.proofs.TableLaws.{at-past}
 use Rattle.tree.proofs.ValidTable.{spells-number}
 use Rattle.tree.proofs.Whole.{sound, whole-part}
@@ -25,7 +27,7 @@ use Rattle.answer.specs.Page.{Page, writes}
 use Rattle.answer.proofs.Flat.{walked-both}
 use Rattle.answer.proofs.Whole.{few-nodes}
 use Rattle.flow.specs.Walks.{is-text}
-use Rattle.flow.proofs.SameTests.{part-low, flow-same}
+use Rattle.flow.proofs.SameTests.{flow-same}
 
 -- five walks in order
 pub walked-five : (p : Page) (a b c d e : List Rec) {p₁ p₂ p₃ p₄ p₅ : Page} → p₁ ≡ writes p a → p₂ ≡ writes p₁ b → p₃ ≡ writes p₂ c → p₄ ≡ writes p₃ d
@@ -55,5 +57,5 @@ module _ (t : List ℕ) (f : Facts) (valid : judged t ≡ Valid f) where
         rw (s .nodes)
         (flow-same (spells (tableOf t) fail-name) (λ v. eqb v fail) (λ v h. spells-number t f valid fail-name v h ∙ ap (eqb v) (sym named-fail))
         (spells (tableOf t) none-name) (λ v. eqb v none) (λ v h. spells-number t f valid none-name v h ∙ ap (eqb v) (sym named-none))
-        (a-string (tableOf t)) (forestOf t 0 (nodeCount t)) (part-low t bytes (whole-part t f s))
+        (a-string (tableOf t)) (forestOf t 0 (nodeCount t)) (part-small t bytes (whole-part t f s))
         ∙ ap (λ (is-string : ℕ → Bool). flow (λ v. eqb v fail) (λ v. eqb v none) is-string (forestOf t 0 (nodeCount t))) strings)

@@ -7,19 +7,20 @@ use mathlib.Core.Bool.{Bool, true, false, cond, _&&_, _||_, not}
 use lib.Dec.{eqb, ltb}
 use borrow.Author.Tests.{eq-eqb, eqb-true, ltb-true, ltb-false}
 use Rattle.tree.specs.Bytes.{kindAt, sizeAt}
-use Rattle.tree.specs.Forest.{Forest, none, node, spotAt, headAt, forestOf, Part}
-use Rattle.tree.specs.Find.{childOf}
+use Rattle.tree.specs.Forest.{Forest, none, node, spotAt, headAt, forestOf}
+use Rattle.tree.specs.code.Part.{Part, Subtree}
+use Rattle.tree.specs.code.Find.{childOf}
 use Rattle.tree.proofs.Laws.{ended, forest-none, forest-node}
 use Rattle.tree.proofs.Find.{child-ge, child-part}
 use Rattle.rules.specs.Record.{Rec, listed, plainly}
-use Rattle.rules.specs.Order.{Form, forms, look, form-of, fail-called}
-use Rattle.rules.specs.Flow.{Reached, in-list, each, only, both, on-through, stopping, after-stop, reach, reach-part}
+use Rattle.rules.specs.Visit.{look}
+use Rattle.rules.specs.Order.{fail-called}
+use Rattle.rules.specs.Flow.{Reached, in-list, one-by-one, only, both, on-through, stopping, after-stop, reached, reached-part}
 use Rattle.answer.specs.declared.Sheet.{Sheet}
 use Rattle.answer.specs.Page.{Page, write, writes, page}
 use Rattle.answer.proofs.Laws.{writes-none}
 use Rattle.answer.proofs.Flat.{Going, going-on, going-end, walked-both}
 use Rattle.answer.proofs.ByRole.{there, absent}
-use Rattle.flow.specs.Returns.{Whole}
 use Rattle.flow.specs.Walks.{left, Walked}
 use Rattle.flow.proofs.Forms.{reach-other}
 use Rattle.flow.proofs.Steps.{whole-at, wrote-none, wrote-one}
@@ -59,17 +60,17 @@ module _ (F : ℕ → Bool) (t : List ℕ) (i : ℕ) where
   under = forestOf t (i + 1) (i + sizeAt t i)
 
   abbrev pub reach-here : Reached
-  reach-here = reach-part F (form-of (headAt t i)) under (λ v. reach F v under)
+  reach-here = reached-part F (headAt t i .kind) under (λ v. reached F v under)
 
-  at-kind : (m : ℕ) → kindAt t i ≡ m → reach-here ≡ reach-part F (look m forms Form.plain) under (λ v. reach F v under)
+  at-kind : (m : ℕ) → kindAt t i ≡ m → reach-here ≡ reached-part F m under (λ v. reached F v under)
   unfolding headAt
-  at-kind m e = ap (λ (x : ℕ). reach-part F (look x forms Form.plain) under (λ v. reach F v under)) e
+  at-kind m e = ap (λ (x : ℕ). reached-part F x under (λ v. reached F v under)) e
 
-  pub here-list : {e : ℕ} → e ≡ i + sizeAt t i → kindAt t i ≡ 8 → reach F in-list (forestOf t (i + 1) e) ≡ reach-here
+  pub here-list : {e : ℕ} → e ≡ i + sizeAt t i → kindAt t i ≡ 8 → reached F in-list (forestOf t (i + 1) e) ≡ reach-here
   here-list a k = rw a (sym (at-kind 8 k))
 
   pub here-sides : {e : ℕ} → e ≡ i + sizeAt t i → kindAt t i ≡ 10
-      → both (reach F (only 1) (forestOf t (i + 1) e)) (reach F (only 2) (forestOf t (i + 1) e)) ≡ reach-here
+      → both (reached F (only 1) (forestOf t (i + 1) e)) (reached F (only 2) (forestOf t (i + 1) e)) ≡ reach-here
   here-sides a k = rw a (sym (at-kind 10 k))
 
   pub here-fails : {e : ℕ} {b : Bool} → e ≡ i + sizeAt t i → kindAt t i ≡ 5 → b ≡ fail-called F (forestOf t (i + 1) e) → stopping b ≡ reach-here
@@ -84,7 +85,7 @@ module _ (F : ℕ → Bool) (t : List ℕ) (i : ℕ) where
   pub here-stops : {k : ℕ} → k ≡ kindAt t i → (eqb k 1 || (eqb k 2 || eqb k 4)) ≡ true → stopping true ≡ reach-here
   here-stops e h = stops-by (eqb (kindAt t i) 1) (eqb (kindAt t i) 2) (eqb (kindAt t i) 4) refl refl refl (rw e at h)
 
-  each-through : (f : Forest) → reach F each f ≡ on-through (reach F each f)
+  each-through : (f : Forest) → reached F one-by-one f ≡ on-through (reached F one-by-one f)
   each-through none = refl
   each-through (node h k s) = refl
 
@@ -92,34 +93,34 @@ module _ (F : ℕ → Bool) (t : List ℕ) (i : ℕ) where
   not-one m e h = false-true (sym h ∙ eq-eqb (kindAt t i) m e)
 
   pub here-each : {e k : ℕ} → e ≡ i + sizeAt t i → k ≡ kindAt t i → (eqb k 1 || (eqb k 2 || eqb k 4)) ≡ false
-      → (kindAt t i ≡ 5 → ⊥) → (kindAt t i ≡ 8 → ⊥) → (kindAt t i ≡ 10 → ⊥) → reach F each (forestOf t (i + 1) e) ≡ reach-here
+      → (kindAt t i ≡ 5 → ⊥) → (kindAt t i ≡ 8 → ⊥) → (kindAt t i ≡ 10 → ⊥) → reached F one-by-one (forestOf t (i + 1) e) ≡ reach-here
   unfolding headAt
   here-each {e} {k} a q h x y z =
       rw a (each-through under ∙ sym (go (eqb (kindAt t i) 1) (eqb (kindAt t i) 2) (eqb (kindAt t i) 4) refl refl refl (rw q at h)))
     where
-      go : (l m n : Bool) → eqb (kindAt t i) 1 ≡ l → eqb (kindAt t i) 2 ≡ m → eqb (kindAt t i) 4 ≡ n → (l || (m || n)) ≡ false → reach-here ≡ on-through (reach F each under)
+      go : (l m n : Bool) → eqb (kindAt t i) 1 ≡ l → eqb (kindAt t i) 2 ≡ m → eqb (kindAt t i) 4 ≡ n → (l || (m || n)) ≡ false → reach-here ≡ on-through (reached F one-by-one under)
       go true m n p q r h = false-true (sym h)
       go false true n p q r h = false-true (sym h)
       go false false true p q r h = false-true (sym h)
       go false false false p q r h =
-          reach-other F (headAt t i) under (λ v. reach F v under) (λ e. not-one 1 e p) (λ e. not-one 2 e q) (λ e. not-one 4 e r) x y z
+          reach-other F (headAt t i) under (λ v. reached F v under) (λ e. not-one 1 e p) (λ e. not-one 2 e q) (λ e. not-one 4 e r) x y z
 
 -- ---- statements in a row
 
 module _ (F : ℕ → Bool) where
   pub list-next : {t : List ℕ} {j e : ℕ} → Part t j e → j < e
-      → reach F in-list (forestOf t j e)
+      → reached F in-list (forestOf t j e)
       ≡ record {
         stops = left F (reach-here F t j .stops) (forestOf t (j + sizeAt t j) e) .stops;
         recs = reach-here F t j .recs ++ left F (reach-here F t j .stops) (forestOf t (j + sizeAt t j) e) .recs;
       }
-  list-next {t} {j} {e} p lt = ap (reach F in-list) (forest-node p lt) ∙ go (reach-here F t j .stops)
+  list-next {t} {j} {e} p lt = ap (reached F in-list) (forest-node p lt) ∙ go (reach-here F t j .stops)
     where
       go : (b : Bool)
           → _≡_ {A = Reached}
           (elim b [
             | true ↦ record { stops = true; recs = reach-here F t j .recs ++ after-stop (forestOf t (j + sizeAt t j) e) }
-            | false ↦ (let b = reach F in-list (forestOf t (j + sizeAt t j) e) in record { stops = b .stops; recs = reach-here F t j .recs ++ b .recs })
+            | false ↦ (let b = reached F in-list (forestOf t (j + sizeAt t j) e) in record { stops = b .stops; recs = reach-here F t j .recs ++ b .recs })
           ])
           (record {
             stops = left F b (forestOf t (j + sizeAt t j) e) .stops;
@@ -143,48 +144,48 @@ module _ (F : ℕ → Bool) where
       )
 
   pub each-next : {t : List ℕ} {j e : ℕ} → Part t j e → j < e
-      → reach F each (forestOf t j e) .recs ≡ reach-here F t j .recs ++ reach F each (forestOf t (j + sizeAt t j) e) .recs
-  each-next {t} {j} {e} p lt = ap (λ (f : Forest). reach F each f .recs) (forest-node p lt)
+      → reached F one-by-one (forestOf t j e) .recs ≡ reach-here F t j .recs ++ reached F one-by-one (forestOf t (j + sizeAt t j) e) .recs
+  each-next {t} {j} {e} p lt = ap (λ (f : Forest). reached F one-by-one f .recs) (forest-node p lt)
 
-  pub each-past : (t : List ℕ) (j e : ℕ) → e ≤ j → reach F each (forestOf t j e) .recs ≡ []
-  each-past t j e h = ap (λ (f : Forest). reach F each f .recs) (forest-none t j e h)
+  pub each-past : (t : List ℕ) (j e : ℕ) → e ≤ j → reached F one-by-one (forestOf t j e) .recs ≡ []
+  each-past t j e h = ap (λ (f : Forest). reached F one-by-one f .recs) (forest-none t j e h)
 
-  each-stops : (f : Forest) → false ≡ reach F each f .stops
+  each-stops : (f : Forest) → false ≡ reached F one-by-one f .stops
   each-stops none = refl
   each-stops (node h k s) = refl
 
   pub each-done : (t : List ℕ) (i j e : ℕ) {o₀ o : List ℕ} {s₀ s : Sheet} → e ≤ j
-      → Going o₀ s₀ (reach F each (forestOf t i e) .recs) o s (reach F each (forestOf t j e) .recs)
-      → Walked o₀ o s₀ s false (reach F each (forestOf t i e))
+      → Going o₀ s₀ (reached F one-by-one (forestOf t i e) .recs) o s (reached F one-by-one (forestOf t j e) .recs)
+      → Walked o₀ o s₀ s false (reached F one-by-one (forestOf t i e))
   each-done t i j e h g = record { written = going-end g (each-past t j e h); stops = each-stops (forestOf t i e) }
 
   pub list-done : (t : List ℕ) (i j e : ℕ) {o₀ o o′ : List ℕ} {s₀ s s′ : Sheet} (b : Bool)
-      → Going o₀ s₀ (reach F in-list (forestOf t i e) .recs) o s (left F b (forestOf t j e) .recs)
-      → left F b (forestOf t j e) .stops ≡ reach F in-list (forestOf t i e) .stops
+      → Going o₀ s₀ (reached F in-list (forestOf t i e) .recs) o s (left F b (forestOf t j e) .recs)
+      → left F b (forestOf t j e) .stops ≡ reached F in-list (forestOf t i e) .stops
       → (not b && ltb j e) ≡ false
       → page o′ s′ ≡ writes (page o s) (listed b (after-stop (forestOf t j e)) [])
-      → Walked o₀ o′ s₀ s′ b (reach F in-list (forestOf t i e))
+      → Walked o₀ o′ s₀ s′ b (reached F in-list (forestOf t i e))
   list-done t i j e true g q h w =
       record { written = w ∙ rw (append-nil (after-stop (forestOf t j e))) (g .yet); stops = q }
   list-done t i j e {o₀} {o} {o′} {s₀} {s} {s′} false g q h w =
       let z = forest-none t j e (ltb-false j e h) in
       record {
-        written = w ∙ writes-none (page o s) ∙ going-end g (ap (λ (f : Forest). reach F in-list f .recs) z);
-        stops = sym (ap (λ (f : Forest). reach F in-list f .stops) z) ∙ q;
+        written = w ∙ writes-none (page o s) ∙ going-end g (ap (λ (f : Forest). reached F in-list f .recs) z);
+        stops = sym (ap (λ (f : Forest). reached F in-list f .stops) z) ∙ q;
       }
 
   -- ---- the first of a role
 
-  pub side-there : (r : ℕ) {t : List ℕ} {i e j : ℕ} → Part t i e → i ≤ e → j ≡ childOf t r i e → j < e → reach-here F t j ≡ reach F (only r) (forestOf t i e)
+  pub side-there : (r : ℕ) {t : List ℕ} {i e j : ℕ} → Part t i e → i ≤ e → j ≡ childOf t r i e → j < e → reach-here F t j ≡ reached F (only r) (forestOf t i e)
   side-there r {t} {i} {e} {j} p h q lt =
       rw q
-      (sym (there r (reach F (only r)) (λ g k. reach-part F (form-of g) k (λ v. reach F v k)) (stopping false) refl (λ g k s b. rw (b, reach)) (λ g k s b. rw (b, reach)) p h (rw q at lt)))
+      (sym (there r (reached F (only r)) (λ g k. reached-part F (g .kind) k (λ v. reached F v k)) (stopping false) refl (λ g k s b. rw (b, reached)) (λ g k s b. rw (b, reached)) p h (rw q at lt)))
 
-  pub side-absent : (r : ℕ) {t : List ℕ} {i e j : ℕ} → Part t i e → j ≡ childOf t r i e → e ≤ j → stopping false ≡ reach F (only r) (forestOf t i e)
+  pub side-absent : (r : ℕ) {t : List ℕ} {i e j : ℕ} → Part t i e → j ≡ childOf t r i e → e ≤ j → stopping false ≡ reached F (only r) (forestOf t i e)
   side-absent r {t} {i} {e} {j} p q h =
-      sym (absent r (reach F (only r)) (λ g k. reach-part F (form-of g) k (λ v. reach F v k)) (stopping false) refl (λ g k s b. rw (b, reach)) (λ g k s b. rw (b, reach)) p (rw q at h))
+      sym (absent r (reached F (only r)) (λ g k. reached-part F (g .kind) k (λ v. reached F v k)) (stopping false) refl (λ g k s b. rw (b, reached)) (λ g k s b. rw (b, reached)) p (rw q at h))
 
-pub side-whole : (r : ℕ) {t : List ℕ} {i e j : ℕ} → Part t i e → i ≤ e → j ≡ childOf t r i e → j < e → Whole t j
+pub side-whole : (r : ℕ) {t : List ℕ} {i e j : ℕ} → Part t i e → i ≤ e → j ≡ childOf t r i e → j < e → Subtree t j
 side-whole r {t} {i} {e} {j} p h q lt = rw q (whole-at (child-part p r h) (rw q at lt))
 
 pub side-low : (r : ℕ) {t : List ℕ} {i e j : ℕ} → Part t i e → i ≤ e → j ≡ childOf t r i e → i ≤ j

@@ -9,21 +9,20 @@ use mathlib.Core.Option.{Option, none, some}
 use lib.Dec.{eqb, ltb}
 use borrow.Author.Tests.{lt-ltb, le-ltb, eq-eqb, ne-eqb}
 use Rattle.tree.specs.Bytes.{kindAt, roleAt, sizeAt, valueAt, pick}
-use Rattle.tree.specs.Forest.{Spot, Head, Forest, Forest.none as leaf, node, spotAt, headAt, forestOf, Part}
-use Rattle.tree.specs.Find.{childOf}
-use Rattle.tree.specs.Shape.{many}
+use Rattle.tree.specs.Forest.{Spot, Head, Forest, Forest.none as leaf, node, spotAt, headAt, forestOf}
+use Rattle.tree.specs.code.Part.{Part, Subtree}
+use Rattle.tree.specs.code.Find.{childOf}
+use Rattle.tree.specs.Children.{many}
 use Rattle.tree.proofs.Laws.{later, sized, ended, kids, first, rest, forest-node, forest-one}
 use Rattle.tree.proofs.Find.{seek, child-end, child-here, child-next, child-ge, many-here, many-next}
 use Rattle.rules.specs.Record.{Rec, listed}
-use Rattle.rules.specs.Order.{Form, look, forms, form-of, has}
-use Rattle.rules.specs.Flow.{place, Return, Which, everything, the-body, returns-rows, returns-part, returns, first-valued, type-reason, reason, ends, missing, missing-expression, bare-recs, check-for, check-rows, check, returns-walk}
-use Rattle.rules.proofs.Look.{case-none}
+use Rattle.rules.specs.Visit.{look, has, spot-at}
+use Rattle.rules.specs.Flow.{Return, Which, everything, the-body, returns-part, returns, first-valued, type-reason, reason, ends, missing, missing-expression, bare-recs, check-for, check, returns-walk}
 use Rattle.answer.specs.Page.{Page, write, writes}
 use Rattle.answer.proofs.Laws.{writes-none, writes-one}
 use Rattle.answer.proofs.Flat.{past, over, split, next, walked-both}
 use Rattle.answer.proofs.ByRole.{there, absent, place-there}
-use Rattle.flow.specs.Returns.{Whole, Shaped, Tidy, TidyAt, DefAt, spot-if, own}
-use Rattle.flow.proofs.EndsLaws.{form-not}
+use Rattle.flow.specs.Returns.{Shaped, Tidy, TidyAt, DefAt, spot-if, own}
 
 -- ---- parts
 
@@ -41,10 +40,10 @@ tidy-first {t} {i} {e} p lt =
 pub tidy-kids : {t : List ℕ} {i : ℕ} → TidyAt t i → Tidy t (i + 1) (i + sizeAt t i)
 tidy-kids {t} {i} w = tidy-later (w .tidy) (omega arith)
 
-pub tidy-whole : {t : List ℕ} {i e : ℕ} → Tidy t i e → i < e → Whole t i
+pub tidy-whole : {t : List ℕ} {i e : ℕ} → Tidy t i e → i < e → Subtree t i
 tidy-whole p lt = record { part = first (p .part) lt; some = sized (p .part) lt }
 
-pub whole-kids : {t : List ℕ} {i : ℕ} → Whole t i → Part t (i + 1) (i + sizeAt t i)
+pub whole-kids : {t : List ℕ} {i : ℕ} → Subtree t i → Part t (i + 1) (i + sizeAt t i)
 whole-kids w = kids (w .part) (omega (arith, w .some))
 
 pub def-shaped : {t : List ℕ} {i : ℕ} → DefAt t i → Shaped t i
@@ -90,11 +89,11 @@ module _ (is-none : ℕ → Bool) {t : List ℕ} {i e : ℕ} (p : Part t i e) (h
 -- ---- the returns, by node numbers
 
 part-of : Head → Forest → List Return
-part-of h k = returns-part (form-of h) h k (λ v. returns v k)
+part-of h k = returns-part (h .kind) h k (λ v. returns v k)
 
 returns-over : {t : List ℕ} {j e : ℕ} → Part t j e → j < e
     → returns everything (forestOf t j e)
-    ≡ returns-part (form-of (headAt t j)) (headAt t j) (forestOf t (j + 1) (j + sizeAt t j)) (λ v. returns v (forestOf t (j + 1) (j + sizeAt t j)))
+    ≡ returns-part (headAt t j .kind) (headAt t j) (forestOf t (j + 1) (j + sizeAt t j)) (λ v. returns v (forestOf t (j + 1) (j + sizeAt t j)))
     ++ returns everything (forestOf t (j + sizeAt t j) e)
 unfolding part-of
 returns-over p lt = over (returns everything) part-of refl (λ h k s. refl) p lt
@@ -110,17 +109,14 @@ returns-split p q a b = split (returns everything) part-of refl (λ h k s. refl)
 
 -- what is no def is a return itself, or nothing, and then what is below it
 part-own : (h : Head) (k : Forest) (down : Which → List Return) → (h .kind ≡ 12 → ⊥)
-    → returns-part (form-of h) h k down ≡ own h k ++ down everything
+    → returns-part (h .kind) h k down ≡ own h k ++ down everything
 unfolding own
 part-own h k down d = go (ℕ-discrete (h .kind) 4)
   where
-    go : Dec (h .kind ≡ 4) → returns-part (form-of h) h k down ≡ listed (eqb 4 (h .kind)) (record { spot = h .spot; valued = has 4 k } ∷ []) [] ++ down everything
+    go : Dec (h .kind ≡ 4) → returns-part (h .kind) h k down ≡ listed (eqb 4 (h .kind)) (record { spot = h .spot; valued = has 4 k } ∷ []) [] ++ down everything
     go (yes q) = rw q
     go (no q) =
-        let x = form-not (h .kind) 4 Form.returning tt tt q in
-        let y = form-not (h .kind) 12 Form.def tt tt d in
-        rw (ne-eqb 4 (h .kind) (λ z. q (sym z)))
-        (ap (λ (g : Head → Forest → (Which → List Return) → List Return). g h k down) (case-none (form-of h) returns-rows (λ h k down. down everything) (rw (x, y) tt)))
+        rw (ne-eqb 4 (h .kind) (λ z. q (sym z)), ne-eqb (h .kind) 4 q, ne-eqb (h .kind) 12 d, look)
 
 pub returns-next : {t : List ℕ} {j e : ℕ} → Tidy t j e → j < e → (m : ℕ) → m ≡ j + pick (eqb 12 (kindAt t j)) (sizeAt t j) 1
     → returns everything (forestOf t j e) ≡ own (headAt t j) (forestOf t (j + 1) (j + sizeAt t j)) ++ returns everything (forestOf t m e)
@@ -136,7 +132,7 @@ returns-next {t} {j} {e} w lt m q = go (ℕ-discrete (kindAt t j) 12)
         let s = sized (w .part) lt in
         rw m′
         (returns-over (w .part) lt
-        ∙ ap (λ (l : List Return). l ++ returns everything (forestOf t (j + sizeAt t j) e)) (part-own (headAt t j) (forestOf t (j + 1) (j + sizeAt t j)) _ d)
+        ∙ ap (λ (l : List Return). l ++ returns everything (forestOf t (j + sizeAt t j) e)) (part-own (headAt t j) (forestOf t (j + 1) (j + sizeAt t j)) (λ v. returns v (forestOf t (j + 1) (j + sizeAt t j))) d)
         ∙ append-assoc (own (headAt t j) (forestOf t (j + 1) (j + sizeAt t j))) _ _
         ∙ ap (λ (l : List Return). own (headAt t j) (forestOf t (j + 1) (j + sizeAt t j)) ++ l) (sym (returns-split (kids (w .part) lt) (rest (w .part) lt) (omega arith) (ended (w .part) lt))))
 
@@ -301,7 +297,7 @@ module _ (is-fail is-none : ℕ → Bool) {t : List ℕ} {i : ℕ} (d : DefAt t 
   for-both h name b en eb u v =
       let s = def-shaped d in
       let w = kids (d .at .tidy .part) (omega (arith, d .at .some)) in
-      let z : place 6 (forestOf t (i + 1) (i + sizeAt t i)) ≡ spotAt t name = place-there 6 w (omega (arith, d .at .some)) (s .name) ∙ ap (spotAt t) (sym en) in
+      let z : spot-at 6 (forestOf t (i + 1) (i + sizeAt t i)) ≡ spotAt t name = place-there 6 w (omega (arith, d .at .some)) (s .name) ∙ ap (spotAt t) (sym en) in
       let y = body-one w (s .one) b eb (rw eb (s .body)) in
       walked-both p _ _ u v
       ∙ ap (writes p) (rw (lt-ltb why 65536 h, z, y) (sym (listed-before (not (ends is-fail 1 (forestOf t (i + 1) (i + sizeAt t i)))) _ _)))
@@ -311,16 +307,12 @@ module _ (is-fail is-none : ℕ → Bool) {t : List ℕ} {i : ℕ} (d : DefAt t 
 module _ (is-fail is-none : ℕ → Bool) where
   module _ (t : List ℕ) (i : ℕ) (p : Page) where
     abbrev pub stmt-recs : List Rec
-    stmt-recs = check is-fail is-none (form-of (headAt t i)) (headAt t i) (forestOf t (i + 1) (i + sizeAt t i))
+    stmt-recs = check is-fail is-none (headAt t i .kind) (headAt t i) (forestOf t (i + 1) (i + sizeAt t i))
 
     pub stmt-no : (kindAt t i ≡ 12 → ⊥) → p ≡ writes p stmt-recs
     unfolding headAt
     stmt-no q =
-        let x = form-not (kindAt t i) 12 Form.def tt tt q in
-        sym (writes-none p)
-        ∙ ap (writes p)
-        (sym (ap (λ (g : Head → Forest → List Rec). g (headAt t i) (forestOf t (i + 1) (i + sizeAt t i)))
-        (case-none (look (kindAt t i) forms Form.plain) (check-rows is-fail is-none) (λ h k. []) (rw x tt))))
+        sym (writes-none p) ∙ ap (writes p) (sym (rw (ne-eqb (kindAt t i) 12 q, look)))
 
     pub stmt-def : kindAt t i ≡ 12 → (why : ℕ) → spot-if t why ≡ reason is-none (forestOf t (i + 1) (i + sizeAt t i)) → {q : Page}
         → q ≡ writes p (check-for is-fail is-none (headAt t i) (forestOf t (i + 1) (i + sizeAt t i)) (spot-if t why)) → q ≡ writes p stmt-recs
@@ -328,17 +320,17 @@ module _ (is-fail is-none : ℕ → Bool) where
     stmt-def k why u w = rw k (rw k at (rw u at w))
 
   part-recs : Head → Forest → List Rec
-  part-recs h k = check is-fail is-none (form-of h) h k ++ returns-walk is-fail is-none k
+  part-recs h k = check is-fail is-none (h .kind) h k ++ returns-walk is-fail is-none k
 
   walk-cons : (h : Head) (k s : Forest) → returns-walk is-fail is-none (node h k s) ≡ part-recs h k ++ returns-walk is-fail is-none s
   unfolding part-recs
-  walk-cons h k s = sym (append-assoc (check is-fail is-none (form-of h) h k) (returns-walk is-fail is-none k) (returns-walk is-fail is-none s))
+  walk-cons h k s = sym (append-assoc (check is-fail is-none (h .kind) h k) (returns-walk is-fail is-none k) (returns-walk is-fail is-none s))
 
   pub walk-next : {t : List ℕ} {i n : ℕ} → Part t i n → i < n
       → returns-walk is-fail is-none (forestOf t i n)
-      ≡ check is-fail is-none (form-of (headAt t i)) (headAt t i) (forestOf t (i + 1) (i + sizeAt t i)) ++ returns-walk is-fail is-none (forestOf t (i + 1) n)
+      ≡ check is-fail is-none (headAt t i .kind) (headAt t i) (forestOf t (i + 1) (i + sizeAt t i)) ++ returns-walk is-fail is-none (forestOf t (i + 1) n)
   unfolding part-recs
-  walk-next p lt = next (returns-walk is-fail is-none) part-recs refl walk-cons (λ h k. check is-fail is-none (form-of h) h k) (λ h k. refl) p lt
+  walk-next p lt = next (returns-walk is-fail is-none) part-recs refl walk-cons (λ h k. check is-fail is-none (h .kind) h k) (λ h k. refl) p lt
 
   pub walk-past : (t : List ℕ) (i n : ℕ) → n ≤ i → returns-walk is-fail is-none (forestOf t i n) ≡ []
   walk-past t i n h = past (returns-walk is-fail is-none) part-recs refl walk-cons t i n h

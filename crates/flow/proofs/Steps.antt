@@ -8,11 +8,12 @@ use mathlib.Core.Bool.{Bool, true, false, cond, _||_}
 use lib.Dec.{eqb, ltb}
 use borrow.Author.Tests.{ne-eqb, lt-ltb, le-ltb, eqb-true}
 use Rattle.tree.specs.Bytes.{kindAt, sizeAt, valueAt, pick}
-use Rattle.tree.specs.Forest.{Spot, Head, Forest, none, node, spotAt, headAt, forestOf, Part}
-use Rattle.tree.specs.Find.{childOf}
+use Rattle.tree.specs.Forest.{Spot, Head, Forest, none, node, spotAt, headAt, forestOf}
+use Rattle.tree.specs.code.Part.{Part, Subtree}
+use Rattle.tree.specs.code.Find.{childOf}
 use Rattle.tree.proofs.Laws.{sized, ended, first, kids, rest, forest-none, forest-node}
 use Rattle.rules.specs.Record.{Rec, plainly}
-use Rattle.rules.specs.Order.{form-of, look}
+use Rattle.rules.specs.Visit.{look}
 use Rattle.rules.specs.Flow.{Effect, some-effect, none-effect, by-children, effects, effect, effect-part, effect-walk, Loads, loads-part, loads, string-stated}
 use Rattle.rules.proofs.Look.{look-all}
 use Rattle.answer.specs.Page.{Page, write, writes}
@@ -22,15 +23,15 @@ use Rattle.answer.proofs.ByRole.{place-there}
 use Rattle.tree.specs.Children.{slotOf}
 use Rattle.tree.proofs.Roles.{kid-there}
 use Rattle.tree.proofs.Whole.{sound}
-use Rattle.flow.specs.Returns.{Whole, Checked}
+use Rattle.flow.specs.Returns.{Checked}
 use Rattle.flow.specs.Walks.{Stated, is-text, acts-by, acting, onto, inside, idle-at, past-of, into-of, load-at}
 use Rattle.flow.proofs.Beside.{beside, below-split}
 use Rattle.flow.proofs.Forms.{effect-other, loads-other, loads-end, loads-load, loads-silent}
 
-pub whole-at : {t : List ℕ} {i e : ℕ} → Part t i e → i < e → Whole t i
+pub whole-at : {t : List ℕ} {i e : ℕ} → Part t i e → i < e → Subtree t i
 whole-at p lt = record { part = first p lt; some = sized p lt }
 
-pub below : {t : List ℕ} {i : ℕ} → Whole t i → Part t (i + 1) (i + sizeAt t i)
+pub below : {t : List ℕ} {i : ℕ} → Subtree t i → Part t (i + 1) (i + sizeAt t i)
 below w = kids (w .part) (omega (arith, w .some))
 
 -- nothing is written
@@ -178,7 +179,7 @@ module _ (strings : List Bool) (t : List ℕ) (i : ℕ) where
   unfolding headAt
   idle-acts p k e h = wrote-none p (rw (k, sym e ∙ h))
 
-  pub idle-put : (p : Page) {q : Page} {b : Bool} → Whole t i → kindAt t i ≡ 5
+  pub idle-put : (p : Page) {q : Page} {b : Bool} → Subtree t i → kindAt t i ≡ 5
       → b ≡ effect (is-text strings) (forestOf t (i + 1) (i + sizeAt t i)) → b ≡ false → (c : ℕ)
       → c ≡ childOf t 4 (i + 1) (i + sizeAt t i) → c < i + sizeAt t i
       → q ≡ write p (plainly 13 (spotAt t c)) → q ≡ writes p idle-here
@@ -192,7 +193,7 @@ module _ (strings : List Bool) where
   walk = effect-walk (is-text strings)
 
   abbrev Walk : Head → Forest → List Rec
-  Walk h k = effect-part (is-text strings) (form-of h) k (effect-walk (is-text strings) k)
+  Walk h k = effect-part (is-text strings) (h .kind) k (effect-walk (is-text strings) k)
 
   pub idle-past : (t : List ℕ) (i n : ℕ) → n ≤ i → effect-walk (is-text strings) (forestOf t i n) ≡ []
   idle-past t i n h = past walk Walk refl (λ h k s. refl) t i n h
@@ -279,7 +280,7 @@ module _ (F : ℕ → Bool) where
       → loads F may (beside a b) ≡ record { may = loads F (loads F may a .may) b .may; recs = loads F may a .recs ++ loads F (loads F may a .may) b .recs }
   loads-beside none b may = refl
   loads-beside (node h k s) b may =
-      go (loads-part F (form-of h) may h k (λ v. loads F v k)) (λ v. loads-beside s b v)
+      go (loads-part F (h .kind) may h k (λ v. loads F v k)) (λ v. loads-beside s b v)
     where
       go : (a : Loads)
           → ((v : Bool) → loads F v (beside s b) ≡ record { may = loads F (loads F v s .may) b .may; recs = loads F v s .recs ++ loads F (loads F v s .may) b .recs })

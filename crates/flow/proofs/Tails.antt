@@ -5,18 +5,18 @@ use native.Mathlib.Decide.{decLt}
 use mathlib.Core.Path.{_≡_, refl, sym, ap, _∙_}
 use mathlib.Core.List.{List, [], _∷_, _++_, append-assoc}
 use mathlib.Core.Bool.{Bool, true, false, _&&_, not}
-use borrow.Author.Tests.{eq-eqb}
 use Rattle.tree.specs.Bytes.{kindAt, sizeAt}
-use Rattle.tree.specs.Forest.{Head, Forest, node, spotAt, headAt, forestOf, Part}
-use Rattle.tree.specs.Find.{childOf}
+use Rattle.tree.specs.Forest.{Head, Forest, node, spotAt, headAt, forestOf}
+use Rattle.tree.specs.code.Part.{Part, Subtree}
+use Rattle.tree.specs.code.Find.{childOf}
 use Rattle.tree.proofs.Laws.{later, forest-none, forest-node}
 use Rattle.rules.specs.Record.{Rec, listed, plainly}
-use Rattle.rules.specs.Order.{Form, forms, look, form-of, has}
+use Rattle.rules.specs.Visit.{look, has}
 use Rattle.rules.specs.Flow.{tail, tail-part, redundant-part, redundant-walk, below-root}
 use Rattle.answer.specs.Page.{Page, write, writes}
 use Rattle.answer.proofs.Flat.{past, next}
 use Rattle.answer.proofs.ByRole.{there, absent}
-use Rattle.flow.specs.Returns.{Whole, Last}
+use Rattle.flow.specs.Returns.{Last}
 use Rattle.flow.proofs.LastLaws.{last-there, last-absent}
 use Rattle.flow.proofs.Forms.{tail-other, redundant-other}
 use Rattle.flow.proofs.Steps.{whole-at, below, wrote-none, wrote-one}
@@ -26,10 +26,6 @@ has-there r p h lt = there r (has r) (λ g k. true) false refl (λ g k s b. rw b
 
 pub has-absent : (r : ℕ) {t : List ℕ} {i e : ℕ} → Part t i e → e ≤ childOf t r i e → has r (forestOf t i e) ≡ false
 has-absent r p h = absent r (has r) (λ g k. true) false refl (λ g k s b. rw b) (λ g k s b. rw b) p h
-
-and-true : (b : Bool) → b && true ≡ b
-and-true true = refl
-and-true false = refl
 
 -- ---- 10 and 11
 
@@ -43,7 +39,7 @@ module _ (loops : Bool) (t : List ℕ) (i : ℕ) where
   pub bare-loops : (p : Page) → loops ≡ true → p ≡ writes p bare-here
   bare-loops p e = wrote-none p (rw e)
 
-  pub bare-valued : (p : Page) {e c : ℕ} → Whole t i → e ≡ i + sizeAt t i → c ≡ childOf t 4 (i + 1) e → c < e → p ≡ writes p bare-here
+  pub bare-valued : (p : Page) {e c : ℕ} → Subtree t i → e ≡ i + sizeAt t i → c ≡ childOf t 4 (i + 1) e → c < e → p ≡ writes p bare-here
   bare-valued p {e} {c} w a b lt =
       let z : not (has 4 under) ≡ false = rw (has-there 4 (below w) (omega (arith, w .some)) (rw (b, a) at lt)) in
       wrote-none p (rw z (never (not loops)))
@@ -52,23 +48,23 @@ module _ (loops : Bool) (t : List ℕ) (i : ℕ) where
       never true = refl
       never false = refl
 
-  pub bare-put : (p : Page) {q : Page} {e c : ℕ} → Whole t i → loops ≡ false → e ≡ i + sizeAt t i → c ≡ childOf t 4 (i + 1) e → e ≤ c
+  pub bare-put : (p : Page) {q : Page} {e c : ℕ} → Subtree t i → loops ≡ false → e ≡ i + sizeAt t i → c ≡ childOf t 4 (i + 1) e → e ≤ c
       → q ≡ write p (plainly 10 (spotAt t i)) → q ≡ writes p bare-here
   bare-put p {q} {e} {c} w l a b h r =
       wrote-one p (plainly 10 (spotAt t i)) r (rw (l, has-absent 4 (below w) (rw (b, a) at h)))
 
   -- the statement at node i, last
   abbrev pub tail-here : List Rec
-  tail-here = tail-part (form-of (headAt t i)) loops (headAt t i) under (λ v. tail loops v under)
+  tail-here = tail-part (headAt t i .kind) loops (headAt t i) under (λ v. tail loops v under)
 
-  at-kind : (m : ℕ) → kindAt t i ≡ m → tail-here ≡ tail-part (look m forms Form.plain) loops (headAt t i) under (λ v. tail loops v under)
+  at-kind : (m : ℕ) → kindAt t i ≡ m → tail-here ≡ tail-part m loops (headAt t i) under (λ v. tail loops v under)
   unfolding headAt
-  at-kind m e = ap (λ (x : ℕ). tail-part (look x forms Form.plain) loops (headAt t i) under (λ v. tail loops v under)) e
+  at-kind m e = ap (λ (x : ℕ). tail-part x loops (headAt t i) under (λ v. tail loops v under)) e
 
   pub check-continue : (p : Page) {q : Page} → kindAt t i ≡ 2 → q ≡ writes p (listed loops (plainly 11 (spotAt t i) ∷ []) []) → q ≡ writes p tail-here
   unfolding headAt
   check-continue p e w =
-      w ∙ ap (writes p) (sym (at-kind 2 e ∙ rw (eq-eqb 2 (kindAt t i) (sym e), and-true loops)))
+      w ∙ ap (writes p) (sym (at-kind 2 e))
 
   pub check-return : (p : Page) {q : Page} → kindAt t i ≡ 4 → q ≡ writes p bare-here → q ≡ writes p tail-here
   unfolding headAt
@@ -90,25 +86,25 @@ module _ (loops : Bool) (t : List ℕ) (i : ℕ) where
   check-other p a b c d e = wrote-none p (tail-other loops (headAt t i) under (λ v. tail loops v under) a b c d e)
 
 module _ (loops : Bool) (r : ℕ) {t : List ℕ} {i e j : ℕ} (p : Part t i e) (l : Last t r i e j) where
-  pub last-whole : j < e → Whole t j
+  pub last-whole : j < e → Subtree t j
   last-whole lt = whole-at (later p (l .from lt)) lt
 
   pub last-none : (q : Page) → e ≤ j → q ≡ writes q (tail loops r (forestOf t i e))
-  last-none q h = wrote-none q (last-absent r (tail loops r) (λ h k. tail-part (form-of h) loops h k (λ v. tail loops v k)) [] refl (λ h k s. refl) l h)
+  last-none q h = wrote-none q (last-absent r (tail loops r) (λ h k. tail-part (h .kind) loops h k (λ v. tail loops v k)) [] refl (λ h k s. refl) l h)
 
   pub last-checked : (q : Page) {q′ : Page} → j < e → q′ ≡ writes q (tail-here loops t j) → q′ ≡ writes q (tail loops r (forestOf t i e))
   last-checked q lt w =
-      w ∙ ap (writes q) (sym (last-there r (tail loops r) (λ h k. tail-part (form-of h) loops h k (λ v. tail loops v k)) [] refl (λ h k s. refl) l lt))
+      w ∙ ap (writes q) (sym (last-there r (tail loops r) (λ h k. tail-part (h .kind) loops h k (λ v. tail loops v k)) [] refl (λ h k s. refl) l lt))
 
 -- ---- every body
 
 module _ (t : List ℕ) (i : ℕ) where
   abbrev pub body-here : List Rec
-  body-here = redundant-part (form-of (headAt t i)) (forestOf t (i + 1) (i + sizeAt t i))
+  body-here = redundant-part (headAt t i .kind) (forestOf t (i + 1) (i + sizeAt t i))
 
-  body-kind : (m : ℕ) → kindAt t i ≡ m → body-here ≡ redundant-part (look m forms Form.plain) (forestOf t (i + 1) (i + sizeAt t i))
+  body-kind : (m : ℕ) → kindAt t i ≡ m → body-here ≡ redundant-part m (forestOf t (i + 1) (i + sizeAt t i))
   unfolding headAt
-  body-kind m e = ap (λ (x : ℕ). redundant-part (look x forms Form.plain) (forestOf t (i + 1) (i + sizeAt t i))) e
+  body-kind m e = ap (λ (x : ℕ). redundant-part x (forestOf t (i + 1) (i + sizeAt t i))) e
 
   pub body-for : (p : Page) {q : Page} {e : ℕ} → e ≡ i + sizeAt t i → kindAt t i ≡ 11 → q ≡ writes p (tail true 1 (forestOf t (i + 1) e)) → q ≡ writes p body-here
   body-for p a e w = w ∙ rw a (ap (writes p) (sym (body-kind 11 e)))
@@ -121,13 +117,13 @@ module _ (t : List ℕ) (i : ℕ) where
   body-other p a b = wrote-none p (redundant-other (headAt t i) (forestOf t (i + 1) (i + sizeAt t i)) a b)
 
 abbrev Below : Head → Forest → List Rec
-Below h k = redundant-part (form-of h) k ++ redundant-walk k
+Below h k = redundant-part (h .kind) k ++ redundant-walk k
 
 below-cons : (h : Head) (k s : Forest) → redundant-walk (node h k s) ≡ Below h k ++ redundant-walk s
-below-cons h k s = sym (append-assoc (redundant-part (form-of h) k) (redundant-walk k) (redundant-walk s))
+below-cons h k s = sym (append-assoc (redundant-part (h .kind) k) (redundant-walk k) (redundant-walk s))
 
 pub redundant-next : {t : List ℕ} {i n : ℕ} → Part t i n → i < n → redundant-walk (forestOf t i n) ≡ body-here t i ++ redundant-walk (forestOf t (i + 1) n)
-redundant-next p lt = next redundant-walk Below refl below-cons (λ h k. redundant-part (form-of h) k) (λ h k. refl) p lt
+redundant-next p lt = next redundant-walk Below refl below-cons (λ h k. redundant-part (h .kind) k) (λ h k. refl) p lt
 
 pub redundant-past : (t : List ℕ) (i n : ℕ) → n ≤ i → redundant-walk (forestOf t i n) ≡ []
 redundant-past t i n h = past redundant-walk Below refl below-cons t i n h

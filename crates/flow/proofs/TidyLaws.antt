@@ -8,10 +8,10 @@ use mathlib.Core.List.{List, [], _∷_}
 use lib.Dec.{T, eqb, eqb→eq}
 use borrow.Author.Tests.{eq-eqb, ne-eqb}
 use Rattle.tree.specs.Bytes.{nodeCount, kindAt, sizeAt}
-use Rattle.tree.specs.Children.{classOf, inClass, slotOf}
+use Rattle.tree.specs.Children.{classOf, inClass, slotOf, all-stand, many}
 use Rattle.tree.specs.Forest.{Head, Forest, Forest.none as leaf, node, forestOf}
-use Rattle.tree.specs.Shape.{all-stand, many, fitting}
-use Rattle.tree.specs.Sound.{Sound}
+use Rattle.tree.specs.code.Shape.{fitting}
+use Rattle.tree.specs.code.Sound.{Sound}
 use Rattle.tree.specs.declared.Facts.{Facts}
 use Rattle.tree.proofs.Classes.{slot-so, slot-role}
 use Rattle.tree.proofs.Shape.{fits-here, fits-kids, fits-rest, fit-stand, stand-here, stand-rest}
@@ -19,11 +19,10 @@ use Rattle.tree.proofs.Fits.{kids-fitting, part-fits}
 use Rattle.tree.proofs.Roles.{kids-part, kid-many, kid-there}
 use Rattle.tree.proofs.Whole.{sound, whole, whole-part}
 use Rattle.rules.specs.Record.{listed}
-use Rattle.rules.specs.Order.{Form, rank, case, form-of, has}
+use Rattle.rules.specs.Visit.{look, has}
 use Rattle.rules.specs.Flow.{Return, Which, everything, the-rest, wanted, returns-part, returns}
-use Rattle.rules.proofs.Look.{case-all}
+use Rattle.rules.proofs.Look.{row}
 use Rattle.flow.specs.Returns.{Shaped, Tidy, Checked}
-use Rattle.flow.proofs.EndsLaws.{form-not}
 
 -- a child that does not stand in a statement's slot is no statement
 class-other : (c j : ℕ) → (c ≡ 1 → ⊥) → T (inClass c j) → classOf j ≡ 1 → ⊥
@@ -48,20 +47,11 @@ slot-def r n q =
     let v : T (eqb (slotOf 12 r .role) 1) = rw (eq-eqb _ 1 q) at (slot-so (λ k s. not (eqb (s .class) 1) || (not (eqb k 12) || eqb (s .role) 1)) tt 12 r tt) in
     n (sym (slot-role 12 r) ∙ eqb→eq _ 1 v)
 
-skip-step : {A : Type 0} (b : Bool) (a x : A) → b ≡ false → elim b as (λ y. A) [ true ↦ a | false ↦ x ] ≡ x
-skip-step true a x e = let z : _≡_ {A = ℕ} 0 1 = cc in absurd (omega arith)
-skip-step false a x e = refl
-
-case-skip : {A : Type 0} (z : Form) (e : Form × A) (es : List (Form × A)) (d : A) → eqb (rank z) (rank (e .0)) ≡ false → case z (e ∷ es) d ≡ case z es d
-case-skip z e es d q = skip-step (eqb (rank z) (rank (e .0))) (e .1) (case z es d) q
-
-part-quiet : (h : Head) (k : Forest) (down : Which → List Return) → (classOf (h .kind) ≡ 1 → ⊥) → ((v : Which) → down v ≡ []) → returns-part (form-of h) h k down ≡ []
+part-quiet : (h : Head) (k : Forest) (down : Which → List Return) → (classOf (h .kind) ≡ 1 → ⊥) → ((v : Which) → down v ≡ []) → returns-part (h .kind) h k down ≡ []
 unfolding classOf
 part-quiet h k down n q =
-    let x = form-not (h .kind) 4 Form.returning tt tt (λ z. n (ap classOf z)) in
-    ap (λ (g : Head → Forest → (Which → List Return) → List Return). g h k down)
-    (case-skip (form-of h) (Form.returning, λ h k down. record { spot = h .spot; valued = has 4 k } ∷ down everything) ((Form.def, λ h k down. down the-rest) ∷ []) (λ h k down. down everything) x)
-    ∙ case-all (λ (g : Head → Forest → (Which → List Return) → List Return). g h k down ≡ []) (form-of h) ((Form.def, λ h k down. down the-rest) ∷ []) (λ h k down. down everything) (q the-rest, tt) (q everything)
+    rw (ne-eqb (h .kind) 4 (λ z. n (ap classOf z)), look)
+    (row (λ (l : List Return). l ≡ []) (eqb (h .kind) 12) (down the-rest) (down everything) (q the-rest) (q everything))
 
 listed-none : (b : Bool) (xs ys : List Return) → xs ≡ [] → ys ≡ [] → listed b xs ys ≡ []
 listed-none true xs ys p q = rw (p, q)

@@ -7,14 +7,15 @@ use mathlib.Core.List.{List, [], _∷_}
 use mathlib.Core.Option.{Option, none, some}
 use lib.Dec.{eqb, ltb}
 use Rattle.tree.specs.Bytes.{kindAt, sizeAt}
-use Rattle.tree.specs.Forest.{Spot, Head, Forest, Forest.none as leaf, node, spotAt, headAt, forestOf, Part}
-use Rattle.tree.specs.Find.{kidOf}
-use Rattle.tree.specs.Shape.{many}
+use Rattle.tree.specs.Forest.{Spot, Head, Forest, Forest.none as leaf, node, spotAt, headAt, forestOf}
+use Rattle.tree.specs.code.Part.{Part}
+use Rattle.tree.specs.code.Find.{kidOf}
+use Rattle.tree.specs.Children.{many}
 use Rattle.tree.specs.Judge.{judged}
 use Rattle.tree.specs.declared.Facts.{Facts}
 use Rattle.tree.specs.declared.Judged.the-variants.{Valid}
 use Rattle.rules.specs.Record.{listed}
-use Rattle.rules.specs.Order.{has}
+use Rattle.rules.specs.Visit.{has}
 use Rattle.rules.specs.Flow.{Return, the-rest, returns}
 
 -- ---- the last of some siblings
@@ -37,12 +38,6 @@ node-if t j e = cond (ltb j e) (node (headAt t j) (forestOf t (j + 1) (j + sizeA
 pub record Last (t : List ℕ) (r i e j : ℕ) : Type 0 where
   pub from : j < e → i ≤ j
   pub found : last-node r (forestOf t i e) ≡ node-if t j e
-
--- ---- node i with what is below it
-
-pub record Whole (t : List ℕ) (i : ℕ) : Type 0 where
-  pub part : Part t i (i + sizeAt t i)
-  pub some : 1 ≤ sizeAt t i
 
 -- ---- defs
 

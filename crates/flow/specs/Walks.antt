@@ -7,10 +7,10 @@ use lib.Dec.{eqb, ltb}
 use lib.ListN.{getD}
 use Rattle.tree.specs.Bytes.{kindAt, sizeAt, pick}
 use Rattle.tree.specs.Forest.{Head, Forest}
-use Rattle.tree.specs.Find.{childOf}
+use Rattle.tree.specs.code.Find.{childOf}
 use Rattle.rules.specs.Record.{Rec}
-use Rattle.rules.specs.Order.{form-of, look}
-use Rattle.rules.specs.Flow.{Effect, some-effect, none-effect, by-children, effects, effect-part, Loads, loads-part, Reached, after-stop, in-list, reach}
+use Rattle.rules.specs.Visit.{look}
+use Rattle.rules.specs.Flow.{Effect, some-effect, none-effect, by-children, effects, effect-part, Loads, loads-part, Reached, after-stop, in-list, reached}
 use Rattle.answer.specs.declared.Sheet.{Sheet}
 use Rattle.answer.specs.Page.{writes, page}
 
@@ -55,17 +55,17 @@ into-of k t i = pick (eqb k (kindAt t i)) (i + 1) (i + sizeAt t i)
 
 -- the node alone
 abbrev pub idle-at : List Bool → Head → Forest → List Rec
-idle-at strings h k = effect-part (is-text strings) (form-of h) k []
+idle-at strings h k = effect-part (is-text strings) (h .kind) k []
 
 abbrev pub load-at : List Bool → Bool → Head → Forest → Loads
-load-at strings may h k = loads-part (is-text strings) (form-of h) may h k (λ v. record { may = v; recs = [] })
+load-at strings may h k = loads-part (is-text strings) (h .kind) may h k (λ v. record { may = v; recs = [] })
 
 -- ---- reachable
 
 -- what is left of a list of statements, after one that stops or not
 abbrev pub left : (ℕ → Bool) → Bool → Forest → Reached
 left is-fail true f = record { stops = true; recs = after-stop f }
-left is-fail false f = reach is-fail in-list f
+left is-fail false f = reached is-fail in-list f
 
 -- what a walk writes and hands back
 pub record Walked (o o′ : List ℕ) (s s′ : Sheet) (b : Bool) (w : Reached) : Type 0 where

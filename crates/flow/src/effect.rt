@@ -1,11 +1,12 @@
 // The fifth walk: 13 for an expression without effect as a statement.
 ghost use mathlib.Core.Path.{_≡_};
-ghost use Prim.Native.Nat.{ℕ, _+_, _<_, _≤_};
+ghost use Prim.Native.Nat.{_+_, _<_};
 ghost use Rattle.tree.specs.Bytes.{sizeAt};
-ghost use Rattle.tree.specs.Forest.{headAt, forestOf, Part};
+ghost use Rattle.tree.specs.Forest.{headAt, forestOf};
+ghost use Rattle.tree.specs.code.Part.{Part, Subtree};
 ghost use Rattle.rules.specs.Flow.{effect, effect-walk};
 ghost use Rattle.answer.specs.Page.{writes, page};
-ghost use Rattle.flow.specs.Returns.{Whole, Checked};
+ghost use Rattle.flow.specs.Returns.{Checked};
 ghost use Rattle.flow.specs.Walks.{Stated, is-text, acting, inside, idle-at, past-of};
 use crate::loads::is_string;
 use answer::Sheet;
@@ -67,7 +68,7 @@ fn has_effect(t: &[u8], strings: &[bool; 512], i: usize, e: usize) -> bool
 }
 
 fn idle(t: &[u8], strings: &[bool; 512], i: usize, out: &mut [u32], s: Sheet) -> Sheet
-    requires { ⌜ Whole (now t) i × Stated (now t) i ⌝ }
+    requires { ⌜ Subtree (now t) i × Stated (now t) i ⌝ }
     ensures { λ r. ⌜ page (now (out .exit)) r ≡ writes (page (now (out .entry)) s) (idle-at (now (strings .entry)) (headAt (now (t .entry)) i) (forestOf (now (t .entry)) (i + 1) (i + sizeAt (now (t .entry)) i))) ⌝ }
 {
     if kind_at(t, i) != 5 {

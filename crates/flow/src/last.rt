@@ -2,7 +2,7 @@
 ghost use mathlib.Core.Path.{_≡_};
 ghost use lib.Dec.{eqb};
 ghost use Rattle.tree.specs.Bytes.{roleAt, pick};
-ghost use Rattle.tree.specs.Forest.{Part};
+ghost use Rattle.tree.specs.code.Part.{Part};
 ghost use Rattle.flow.specs.Returns.{Last};
 use tree::bytes::role_at;
 use tree::bytes::size_at;

@@ -5,15 +5,17 @@ ghost use lib.Dec.{eqb};
 ghost use Rattle.tree.specs.Forest.{forestOf};
 ghost use Rattle.tree.specs.Judge.{judged};
 ghost use Rattle.tree.specs.declared.Judged.the-variants.{Valid};
-ghost use Rattle.rules.specs.Flow.{flow, flow-list};
-ghost use Rattle.rules.specs.Outcome.{answered, room-after};
+ghost use Rattle.rules.specs.Flow.{flow};
+ghost use Rattle.rules.specs.Calls.{flow-call};
 ghost use Rattle.answer.specs.Page.{writes, page};
 ghost use Rattle.flow.specs.Returns.{Checked};
 ghost use Rattle.flow.specs.Walks.{is-text};
 use answer::Sheet;
 use answer::started;
 use rules::Answer;
+use rules::CODES;
 use rules::Refusal;
+use rules::WIDTH;
 use tree::Facts;
 use tree::Judged;
 use tree::judge;
@@ -49,9 +51,9 @@ fn lint(
 
 // The whole pass over a valid file, f its facts: counted first, into no room, and written where there is room for all.
 // It requires the judgement, so that the joined call judges a file once.
-pub fn lint_valid(t: &[u8], f: Facts, out: &mut [u32], tally: [usize; 17]) -> Answer
+pub fn lint_valid(t: &[u8], f: Facts, out: &mut [u32], tally: [usize; CODES]) -> Answer
     requires { ⌜ judged (now t) ≡ Valid f ⌝ }
-    ensures { λ r. ⌜ (r ≡ answered (judged (now (t .entry))) (flow-list (now (t .entry))) (now (out .entry)) tally) × (now (out .exit) ≡ room-after (judged (now (t .entry))) (flow-list (now (t .entry))) (now (out .entry))) ⌝ }
+    ensures { λ r. ⌜ record { answer = r; room = now (out .exit) } ≡ flow-call (now (t .entry)) (now (out .entry)) tally ⌝ }
 {
     let n = f.nodes;
     let fail = number_of(t, b"fail");
@@ -59,15 +61,15 @@ pub fn lint_valid(t: &[u8], f: Facts, out: &mut [u32], tally: [usize; 17]) -> An
     let texts = strings(t);
     let c = lint(t, fail, none, &texts, n, &mut out[..0], started(tally));
     let records = c.count;
-    if out.len() / 8 < records {
+    if out.len() / WIDTH < records {
         return answer::refused(Refusal::AnswerRoom(records));
     }
     answer::listed(lint(t, fail, none, &texts, n, out, started(tally)))
 }
 
 // The whole pass, on any bytes.
-pub fn flow(t: &[u8], out: &mut [u32], tally: [usize; 17]) -> Answer
-    ensures { λ r. ⌜ (r ≡ answered (judged (now (t .entry))) (flow-list (now (t .entry))) (now (out .entry)) tally) × (now (out .exit) ≡ room-after (judged (now (t .entry))) (flow-list (now (t .entry))) (now (out .entry))) ⌝ }
+pub fn flow(t: &[u8], out: &mut [u32], tally: [usize; CODES]) -> Answer
+    ensures { λ r. ⌜ record { answer = r; room = now (out .exit) } ≡ flow-call (now (t .entry)) (now (out .entry)) tally ⌝ }
 {
     let j = judge(t);
     let Judged::Valid(f) = j else {

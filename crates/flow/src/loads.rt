@@ -1,12 +1,12 @@
 // The fourth walk: 12 for a load after anything but loads and string literals.
 ghost use mathlib.Core.Path.{_≡_};
 ghost use mathlib.Core.Bool.{true};
-ghost use Prim.Native.Nat.{_+_, _<_, _≤_};
+ghost use Prim.Native.Nat.{_+_, _<_};
 ghost use Rattle.tree.specs.Bytes.{sizeAt};
-ghost use Rattle.tree.specs.Forest.{headAt, forestOf, Part};
+ghost use Rattle.tree.specs.Forest.{headAt, forestOf};
+ghost use Rattle.tree.specs.code.Part.{Part, Subtree};
 ghost use Rattle.rules.specs.Flow.{string-stated, loads};
 ghost use Rattle.answer.specs.Page.{writes, page};
-ghost use Rattle.flow.specs.Returns.{Whole};
 ghost use Rattle.flow.specs.Walks.{is-text, load-at, into-of};
 use answer::Sheet;
 use answer::put_plainly;
@@ -39,7 +39,7 @@ fn is_text(t: &[u8], strings: &[bool; 512], i: usize, e: usize) -> bool
 
 // Whether loads are allowed after the statement at node j.
 fn allows(t: &[u8], strings: &[bool; 512], allowed: bool, j: usize) -> bool
-    requires { ⌜ Whole (now t) j ⌝ }
+    requires { ⌜ Subtree (now t) j ⌝ }
     ensures { λ r. ⌜ r ≡ load-at (now (strings .entry)) allowed (headAt (now (t .entry)) j) (forestOf (now (t .entry)) (j + 1) (j + sizeAt (now (t .entry)) j)) .may ⌝ }
 {
     let k = kind_at(t, j);

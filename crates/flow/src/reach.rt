@@ -5,16 +5,15 @@ ghost use mathlib.Core.List.{[]};
 ghost use Prim.Native.Nat.{_+_, _≤_};
 ghost use lib.Dec.{eqb, ltb};
 ghost use Rattle.tree.specs.Bytes.{sizeAt};
-ghost use Rattle.tree.specs.Forest.{headAt, forestOf, Part};
+ghost use Rattle.tree.specs.Forest.{headAt, forestOf};
+ghost use Rattle.tree.specs.code.Part.{Part, Subtree};
 ghost use Rattle.rules.specs.Record.{listed};
-ghost use Rattle.rules.specs.Order.{form-of};
-ghost use Rattle.rules.specs.Flow.{reach, reach-part, after-stop, in-list as in-a-list, each as each-one, only, both as both-of};
+ghost use Rattle.rules.specs.Flow.{reached, reached-part, after-stop, in-list as in-a-list, one-by-one as each-one, only, both as both-of};
 ghost use Rattle.answer.specs.Page.{writes, page};
-ghost use Rattle.flow.specs.Returns.{Whole};
 ghost use Rattle.flow.specs.Walks.{is-name, Walked};
-use crate::ends::is_fail;
 use answer::Sheet;
 use answer::put_plainly;
+use fail::is_fail;
 use tree::bytes::kind_at;
 use tree::bytes::size_at;
 use tree::children::child_of;
@@ -40,8 +39,8 @@ fn stops(k: usize) -> bool
 
 // The statement at node i.
 fn reachable(t: &[u8], fail: usize, i: usize, out: &mut [u32], s: Sheet) -> Reached
-    requires { ⌜ Whole (now t) i ⌝ }
-    ensures { λ r. ⌜ Walked (now (out .entry)) (now (out .exit)) s (r .sheet) (r .aborts) (reach-part (is-name fail) (form-of (headAt (now (t .entry)) i)) (forestOf (now (t .entry)) (i + 1) (i + sizeAt (now (t .entry)) i)) (λ v. reach (is-name fail) v (forestOf (now (t .entry)) (i + 1) (i + sizeAt (now (t .entry)) i)))) ⌝ }
+    requires { ⌜ Subtree (now t) i ⌝ }
+    ensures { λ r. ⌜ Walked (now (out .entry)) (now (out .exit)) s (r .sheet) (r .aborts) (reached-part (is-name fail) (headAt (now (t .entry)) i .kind) (forestOf (now (t .entry)) (i + 1) (i + sizeAt (now (t .entry)) i)) (λ v. reached (is-name fail) v (forestOf (now (t .entry)) (i + 1) (i + sizeAt (now (t .entry)) i)))) ⌝ }
 {
     let k = kind_at(t, i);
     let e = i + size_at(t, i);
@@ -91,7 +90,7 @@ fn unreachable(t: &[u8], aborts: bool, j: usize, e: usize, out: &mut [u32], s: S
 // Statements in a row.
 fn in_list(t: &[u8], fail: usize, i: usize, e: usize, out: &mut [u32], s: Sheet) -> Reached
     requires { ⌜ Part (now t) i e × (i ≤ e) ⌝ }
-    ensures { λ r. ⌜ Walked (now (out .entry)) (now (out .exit)) s (r .sheet) (r .aborts) (reach (is-name fail) in-a-list (forestOf (now (t .entry)) i e)) ⌝ }
+    ensures { λ r. ⌜ Walked (now (out .entry)) (now (out .exit)) s (r .sheet) (r .aborts) (reached (is-name fail) in-a-list (forestOf (now (t .entry)) i e)) ⌝ }
 {
     let mut sheet = s;
     let mut aborts = false;
@@ -111,7 +110,7 @@ fn in_list(t: &[u8], fail: usize, i: usize, e: usize, out: &mut [u32], s: Sheet)
 // All the children, each by itself.
 fn each(t: &[u8], fail: usize, i: usize, e: usize, out: &mut [u32], s: Sheet) -> Reached
     requires { ⌜ Part (now t) i e × (i ≤ e) ⌝ }
-    ensures { λ r. ⌜ Walked (now (out .entry)) (now (out .exit)) s (r .sheet) (r .aborts) (reach (is-name fail) each-one (forestOf (now (t .entry)) i e)) ⌝ }
+    ensures { λ r. ⌜ Walked (now (out .entry)) (now (out .exit)) s (r .sheet) (r .aborts) (reached (is-name fail) each-one (forestOf (now (t .entry)) i e)) ⌝ }
 {
     let mut sheet = s;
     let mut j = i;
@@ -129,7 +128,7 @@ fn each(t: &[u8], fail: usize, i: usize, e: usize, out: &mut [u32], s: Sheet) ->
 // The first child of role r.
 fn side(t: &[u8], fail: usize, r: usize, i: usize, e: usize, out: &mut [u32], s: Sheet) -> Reached
     requires { ⌜ Part (now t) i e × (i ≤ e) ⌝ }
-    ensures { λ c. ⌜ Walked (now (out .entry)) (now (out .exit)) s (c .sheet) (c .aborts) (reach (is-name fail) (only r) (forestOf (now (t .entry)) i e)) ⌝ }
+    ensures { λ c. ⌜ Walked (now (out .entry)) (now (out .exit)) s (c .sheet) (c .aborts) (reached (is-name fail) (only r) (forestOf (now (t .entry)) i e)) ⌝ }
 {
     let j = child_of(t, r, i, e);
     if j < e {
@@ -152,7 +151,7 @@ fn both(a: bool, b: bool) -> bool
 
 fn sides(t: &[u8], fail: usize, i: usize, e: usize, out: &mut [u32], s: Sheet) -> Reached
     requires { ⌜ Part (now t) i e × (i ≤ e) ⌝ }
-    ensures { λ r. ⌜ Walked (now (out .entry)) (now (out .exit)) s (r .sheet) (r .aborts) (both-of (reach (is-name fail) (only 1) (forestOf (now (t .entry)) i e)) (reach (is-name fail) (only 2) (forestOf (now (t .entry)) i e))) ⌝ }
+    ensures { λ r. ⌜ Walked (now (out .entry)) (now (out .exit)) s (r .sheet) (r .aborts) (both-of (reached (is-name fail) (only 1) (forestOf (now (t .entry)) i e)) (reached (is-name fail) (only 2) (forestOf (now (t .entry)) i e))) ⌝ }
 {
     let a = side(t, fail, 1, i, e, out, s);
     let first = a.sheet;
@@ -166,7 +165,7 @@ fn sides(t: &[u8], fail: usize, i: usize, e: usize, out: &mut [u32], s: Sheet) -
 
 pub(crate) fn whole(t: &[u8], fail: usize, n: usize, out: &mut [u32], s: Sheet) -> Sheet
     requires { ⌜ Part (now t) 0 n ⌝ }
-    ensures { λ r. ⌜ page (now (out .exit)) r ≡ writes (page (now (out .entry)) s) (reach (is-name fail) (only 0) (forestOf (now (t .entry)) 0 n) .recs) ⌝ }
+    ensures { λ r. ⌜ page (now (out .exit)) r ≡ writes (page (now (out .entry)) s) (reached (is-name fail) (only 0) (forestOf (now (t .entry)) 0 n) .recs) ⌝ }
 {
     let r = side(t, fail, 0, 0, n, out, s);
     r.sheet

@@ -4,12 +4,12 @@ ghost use mathlib.Core.Bool.{_&&_, not};
 ghost use mathlib.Core.List.{[], _∷_, _++_};
 ghost use Prim.Native.Nat.{_+_, _≤_};
 ghost use Rattle.tree.specs.Bytes.{sizeAt};
-ghost use Rattle.tree.specs.Forest.{spotAt, headAt, forestOf, Part};
+ghost use Rattle.tree.specs.Forest.{spotAt, headAt, forestOf};
+ghost use Rattle.tree.specs.code.Part.{Part, Subtree};
 ghost use Rattle.rules.specs.Record.{plainly, listed};
-ghost use Rattle.rules.specs.Order.{form-of, has};
+ghost use Rattle.rules.specs.Visit.{has};
 ghost use Rattle.rules.specs.Flow.{tail, tail-part, redundant-part, redundant-walk, below-root};
 ghost use Rattle.answer.specs.Page.{writes, page};
-ghost use Rattle.flow.specs.Returns.{Whole};
 use crate::last::last_of;
 use answer::Sheet;
 use answer::put_plainly;
@@ -29,7 +29,7 @@ fn continues(t: &[u8], loops: bool, i: usize, out: &mut [u32], s: Sheet) -> Shee
 
 // 10 where node i, a return, is bare and ends a def's body.
 fn bare(t: &[u8], loops: bool, i: usize, out: &mut [u32], s: Sheet) -> Sheet
-    requires { ⌜ Whole (now t) i ⌝ }
+    requires { ⌜ Subtree (now t) i ⌝ }
     ensures { λ r. ⌜ page (now (out .exit)) r ≡ writes (page (now (out .entry)) s) (listed (not loops && not (has 4 (forestOf (now (t .entry)) (i + 1) (i + sizeAt (now (t .entry)) i)))) (plainly 10 (spotAt (now (t .entry)) i) ∷ []) []) ⌝ }
 {
     if loops {
@@ -44,8 +44,8 @@ fn bare(t: &[u8], loops: bool, i: usize, out: &mut [u32], s: Sheet) -> Sheet
 
 // The statement at node i is last.
 fn check(t: &[u8], loops: bool, i: usize, out: &mut [u32], s: Sheet) -> Sheet
-    requires { ⌜ Whole (now t) i ⌝ }
-    ensures { λ r. ⌜ page (now (out .exit)) r ≡ writes (page (now (out .entry)) s) (tail-part (form-of (headAt (now (t .entry)) i)) loops (headAt (now (t .entry)) i) (forestOf (now (t .entry)) (i + 1) (i + sizeAt (now (t .entry)) i)) (λ v. tail loops v (forestOf (now (t .entry)) (i + 1) (i + sizeAt (now (t .entry)) i)))) ⌝ }
+    requires { ⌜ Subtree (now t) i ⌝ }
+    ensures { λ r. ⌜ page (now (out .exit)) r ≡ writes (page (now (out .entry)) s) (tail-part (headAt (now (t .entry)) i .kind) loops (headAt (now (t .entry)) i) (forestOf (now (t .entry)) (i + 1) (i + sizeAt (now (t .entry)) i)) (λ v. tail loops v (forestOf (now (t .entry)) (i + 1) (i + sizeAt (now (t .entry)) i)))) ⌝ }
 {
     let k = kind_at(t, i);
     let e = i + size_at(t, i);
@@ -89,8 +89,8 @@ fn last(t: &[u8], loops: bool, r: usize, i: usize, e: usize, out: &mut [u32], s:
 
 // What node i's body ends with, where it is a for or a def.
 fn body(t: &[u8], i: usize, out: &mut [u32], s: Sheet) -> Sheet
-    requires { ⌜ Whole (now t) i ⌝ }
-    ensures { λ r. ⌜ page (now (out .exit)) r ≡ writes (page (now (out .entry)) s) (redundant-part (form-of (headAt (now (t .entry)) i)) (forestOf (now (t .entry)) (i + 1) (i + sizeAt (now (t .entry)) i))) ⌝ }
+    requires { ⌜ Subtree (now t) i ⌝ }
+    ensures { λ r. ⌜ page (now (out .exit)) r ≡ writes (page (now (out .entry)) s) (redundant-part (headAt (now (t .entry)) i .kind) (forestOf (now (t .entry)) (i + 1) (i + sizeAt (now (t .entry)) i))) ⌝ }
 {
     let k = kind_at(t, i);
     let e = i + size_at(t, i);

@@ -5,12 +5,13 @@ ghost use mathlib.Core.List.{[], _∷_};
 ghost use Prim.Native.Nat.{ℕ, _+_, _≤_};
 ghost use lib.Dec.{eqb};
 ghost use Rattle.tree.specs.Bytes.{kindAt, sizeAt, pick};
-ghost use Rattle.tree.specs.Forest.{spotAt, headAt, forestOf, Part};
+ghost use Rattle.tree.specs.Forest.{spotAt, headAt, forestOf};
+ghost use Rattle.tree.specs.code.Part.{Part, Subtree};
 ghost use Rattle.rules.specs.Record.{listed};
-ghost use Rattle.rules.specs.Order.{has, form-of};
-ghost use Rattle.rules.specs.Flow.{place, everything, returns, type-reason, reason, first-valued, ends, missing, bare-recs, check-for, check, returns-walk};
+ghost use Rattle.rules.specs.Visit.{has};
+ghost use Rattle.rules.specs.Flow.{everything, returns, type-reason, reason, first-valued, ends, missing, bare-recs, check-for, check, returns-walk};
 ghost use Rattle.answer.specs.Page.{writes, page};
-ghost use Rattle.flow.specs.Returns.{Whole, Tidy, TidyAt, DefAt, spot-if, own};
+ghost use Rattle.flow.specs.Returns.{Tidy, TidyAt, DefAt, spot-if, own};
 use crate::ends::final_return;
 use answer::Note;
 use answer::Place;
@@ -26,7 +27,7 @@ const NONE: usize = 65536;
 
 // The return at node j has an expression.
 fn is_valued(t: &[u8], j: usize) -> bool
-    requires { ⌜ Whole (now t) j ⌝ }
+    requires { ⌜ Subtree (now t) j ⌝ }
     ensures { λ r. ⌜ r ≡ has 4 (forestOf (now (t .entry)) (j + 1) (j + sizeAt (now (t .entry)) j)) ⌝ }
 {
     let e = j + size_at(t, j);
@@ -45,7 +46,7 @@ fn next(t: &[u8], j: usize) -> usize
 }
 
 fn is_valued_return(t: &[u8], j: usize) -> bool
-    requires { ⌜ Whole (now t) j ⌝ }
+    requires { ⌜ Subtree (now t) j ⌝ }
     ensures { λ r. ⌜ r ≡ (eqb 4 (kindAt (now (t .entry)) j) && has 4 (forestOf (now (t .entry)) (j + 1) (j + sizeAt (now (t .entry)) j))) ⌝ }
 {
     if kind_at(t, j) == 4 {
@@ -110,7 +111,7 @@ fn missing_return(
     out: &mut [u32],
     s: Sheet,
 ) -> Sheet
-    requires { ⌜ Whole (now t) i ⌝ }
+    requires { ⌜ Subtree (now t) i ⌝ }
     ensures { λ r. ⌜ page (now (out .exit)) r ≡ writes (page (now (out .entry)) s) (listed (not (ends (λ v. eqb v fail) 1 (forestOf (now (t .entry)) (i + 1) (i + sizeAt (now (t .entry)) i)))) (missing (headAt (now (t .entry)) i) (spotAt (now (t .entry)) name) (spotAt (now (t .entry)) why) ∷ []) []) ⌝ }
 {
     if final_return(t, fail, 1, i + 1, i + size_at(t, i)) {
@@ -140,7 +141,7 @@ fn bare_return(
     out: &mut [u32],
     s: Sheet,
 ) -> Sheet
-    requires { ⌜ Whole (now t) j ⌝ }
+    requires { ⌜ Subtree (now t) j ⌝ }
     ensures { λ r. ⌜ page (now (out .exit)) r ≡ writes (page (now (out .entry)) s) (bare-recs (headAt (now (t .entry)) i) (spotAt (now (t .entry)) name) (spotAt (now (t .entry)) why) (own (headAt (now (t .entry)) j) (forestOf (now (t .entry)) (j + 1) (j + sizeAt (now (t .entry)) j)))) ⌝ }
 {
     if kind_at(t, j) != 4 {
@@ -203,7 +204,7 @@ fn check_for(t: &[u8], fail: usize, i: usize, why: usize, out: &mut [u32], s: Sh
 
 fn check_stmt(t: &[u8], fail: usize, none: usize, i: usize, out: &mut [u32], s: Sheet) -> Sheet
     requires { ⌜ TidyAt (now t) i ⌝ }
-    ensures { λ r. ⌜ page (now (out .exit)) r ≡ writes (page (now (out .entry)) s) (check (λ v. eqb v fail) (λ v. eqb v none) (form-of (headAt (now (t .entry)) i)) (headAt (now (t .entry)) i) (forestOf (now (t .entry)) (i + 1) (i + sizeAt (now (t .entry)) i))) ⌝ }
+    ensures { λ r. ⌜ page (now (out .exit)) r ≡ writes (page (now (out .entry)) s) (check (λ v. eqb v fail) (λ v. eqb v none) (headAt (now (t .entry)) i .kind) (headAt (now (t .entry)) i) (forestOf (now (t .entry)) (i + 1) (i + sizeAt (now (t .entry)) i))) ⌝ }
 {
     if kind_at(t, i) != 12 {
         return s;

@@ -9,20 +9,20 @@ use lib.Dec.{eqb, leb}
 use lib.ListN.{length, getD}
 use borrow.Author.Tests.{eq-eqb, ne-eqb, le-leb, lt-leb}
 use Rattle.tree.specs.Bytes.{kindAt, roleAt, sizeAt, valueAt}
-use Rattle.tree.specs.Forest.{Spot, Head, Forest, none, node, spotAt, headAt, forestOf, Part}
-use Rattle.tree.specs.Find.{childOf, from-role}
+use Rattle.tree.specs.Forest.{Spot, Head, Forest, none, node, spotAt, headAt, forestOf}
+use Rattle.tree.specs.code.Part.{Part, Subtree}
+use Rattle.tree.specs.code.Find.{childOf, from-role}
 use Rattle.tree.proofs.Search.{clash}
 use Rattle.tree.proofs.Laws.{sized, ended, kids, rest, forest-none}
 use Rattle.tree.proofs.Find.{child-node, child-none, child-role, child-ge, child-part}
 use Rattle.rules.specs.Record.{Rec, named-at, with-value, listed}
-use Rattle.rules.specs.Flow.{place}
-use Rattle.rules.specs.Incompatible.{each, kind-at, under, tally, identifier, type-check, check-at}
+use Rattle.rules.specs.Visit.{spot-at, each, kind-at, under, how-many}
+use Rattle.rules.specs.Incompatible.{identifier, type-check, check-at}
 use Rattle.answer.specs.Page.{Page, write, writes}
 use Rattle.answer.proofs.Laws.{writes-none, writes-one}
 use Rattle.answer.proofs.Flat.{past, next}
 use Rattle.answer.proofs.ByRole.{kind-there, kind-absent, place-there, under-there}
 use Rattle.incompatible.specs.declared.types.Types.{Types}
-use Rattle.incompatible.specs.Ground.{Whole}
 use Rattle.incompatible.specs.Five.{is, five, type-call}
 
 pub eqb-swap : (a b : ℕ) → eqb a b ≡ eqb b a
@@ -49,7 +49,7 @@ module _ (r : ℕ) {t : List ℕ} {i e c : ℕ} (part : Part t i e) (le : i ≤ 
   pub kind-is : c < e → kind-at r (forestOf t i e) ≡ kindAt t c
   kind-is h = kind-there r part le (rw ec at h) ∙ rw ec
 
-  pub spot-is : c < e → place r (forestOf t i e) ≡ spotAt t c
+  pub spot-is : c < e → spot-at r (forestOf t i e) ≡ spotAt t c
   spot-is h = place-there r part le (rw ec at h) ∙ rw ec
 
   pub under-is : c < e → under r (forestOf t i e) ≡ forestOf t (c + 1) (c + sizeAt t c)
@@ -74,25 +74,25 @@ module _ (r : ℕ) {t : List ℕ} {i e c : ℕ} (part : Part t i e) (le : i ≤ 
 
   -- ---- how many have the role
 
-  tally-from : (f : Forest) → tally r f ≡ tally r (from-role r f)
+  tally-from : (f : Forest) → how-many r f ≡ how-many r (from-role r f)
   unfolding from-role
   tally-from none = refl
   tally-from (node h k s) = go (eqb r (h .role)) refl (tally-from s)
     where
-      go : (b : Bool) → eqb r (h .role) ≡ b → tally r s ≡ tally r (from-role r s)
-          → tally r (node h k s) ≡ tally r (elim b [ true ↦ node h k s | false ↦ from-role r s ])
+      go : (b : Bool) → eqb r (h .role) ≡ b → how-many r s ≡ how-many r (from-role r s)
+          → how-many r (node h k s) ≡ how-many r (elim b [ true ↦ node h k s | false ↦ from-role r s ])
       go true z f = refl
-      go false z f = rw (z, tally) f
+      go false z f = rw (z, how-many) f
 
-  pub tally-absent : e ≤ c → tally r (forestOf t i e) ≡ 0
+  pub tally-absent : e ≤ c → how-many r (forestOf t i e) ≡ 0
   tally-absent h = tally-from (forestOf t i e) ∙ rw (child-none part r (rw ec at h))
 
-  pub tally-there : c < e → tally r (forestOf t i e) ≡ suc (tally r (forestOf t (c + sizeAt t c) e))
+  pub tally-there : c < e → how-many r (forestOf t i e) ≡ suc (how-many r (forestOf t (c + sizeAt t c) e))
   unfolding headAt
   tally-there h =
       let l : childOf t r i e < e = rw ec at h in
       tally-from (forestOf t i e)
-      ∙ rw (child-node part r le l) (rw (eq-eqb r (roleAt t (childOf t r i e)) (sym (child-role part r l)), tally, ec))
+      ∙ rw (child-node part r le l) (rw (eq-eqb r (roleAt t (childOf t r i e)) (sym (child-role part r l)), how-many, ec))
 
 -- where an identifier is found, the child is there
 there : (r : ℕ) (q : ℕ → Bool) {t : List ℕ} {i e c : ℕ} (part : Part t i e) → i ≤ e → c ≡ childOf t r i e → true ≡ identifier r q (forestOf t i e) → c < e
@@ -104,22 +104,22 @@ there r q {t} {i} {e} {c} part le ec f = go (decLt c e)
 
 -- exactly one: the next of the role, at d, is past the end
 pub one-is : (r : ℕ) {t : List ℕ} {i e c d : ℕ} (part : Part t i e) → i ≤ e → c ≡ childOf t r i e → c < e
-    → d ≡ childOf t r (c + sizeAt t c) e → leb e d ≡ eqb 1 (tally r (forestOf t i e))
+    → d ≡ childOf t r (c + sizeAt t c) e → leb e d ≡ eqb 1 (how-many r (forestOf t i e))
 one-is r {t} {i} {e} {c} {d} part le ec lt ed = go (decLt d e)
   where
     on : Part t (c + sizeAt t c) e
     on = rest (from-c r part le ec) lt
 
-    many : tally r (forestOf t i e) ≡ suc (tally r (forestOf t (c + sizeAt t c) e))
+    many : how-many r (forestOf t i e) ≡ suc (how-many r (forestOf t (c + sizeAt t c) e))
     many = tally-there r part le ec lt
 
-    go : Dec (d < e) → leb e d ≡ eqb 1 (tally r (forestOf t i e))
+    go : Dec (d < e) → leb e d ≡ eqb 1 (how-many r (forestOf t i e))
     go (yes h) =
         let z = tally-there r on (ended (from-c r part le ec) lt) ed h in
-        lt-leb e d h ∙ sym (ne-eqb 1 (tally r (forestOf t i e)) (λ y. omega (arith, many, z)))
+        lt-leb e d h ∙ sym (ne-eqb 1 (how-many r (forestOf t i e)) (λ y. omega (arith, many, z)))
     go (no h) =
         let z = tally-absent r on (ended (from-c r part le ec) lt) ed (omega arith) in
-        le-leb e d (omega arith) ∙ sym (eq-eqb 1 (tally r (forestOf t i e)) (omega (arith, many, z)))
+        le-leb e d (omega arith) ∙ sym (eq-eqb 1 (how-many r (forestOf t i e)) (omega (arith, many, z)))
 
 -- ---- type(x) at c, left
 
@@ -135,7 +135,7 @@ module _ (call : ℕ) {t : List ℕ} {i e c : ℕ} (part : Part t i e) (le : i �
       pub call-below : Part t (c + 1) end × (c + 1 ≤ end)
       call-below = rw ee (kids (from-c 1 part le ec) lt, omega (arith, sized (from-c 1 part le ec) lt))
 
-      pub call-is : true ≡ identifier 7 (is call) (forestOf t (c + 1) end) → {b : Bool} → b ≡ eqb 1 (tally 0 (forestOf t (c + 1) end)) → b ≡ type-call call (forestOf t i e)
+      pub call-is : true ≡ identifier 7 (is call) (forestOf t (c + 1) end) → {b : Bool} → b ≡ eqb 1 (how-many 0 (forestOf t (c + 1) end)) → b ≡ type-call call (forestOf t i e)
       call-is f g = g ∙ rw (kind-is 1 part le ec lt, k, under-is 1 part le ec lt, sym ee, sym f)
 
       pub call-no : false ≡ identifier 7 (is call) (forestOf t (c + 1) end) → false ≡ type-call call (forestOf t i e)
@@ -164,7 +164,7 @@ module _ (names : Types) (t : List ℕ) (i : ℕ) (p : Page) where
         (sym (and-assoc
         (eqb 23 (kind-at 1 (forestOf t (i + 1) (i + sizeAt t i))))
         (identifier 7 (is (names .call)) (under 1 (forestOf t (i + 1) (i + sizeAt t i))))
-        (eqb 1 (tally 0 (under 1 (forestOf t (i + 1) (i + sizeAt t i)))))
+        (eqb 1 (how-many 0 (under 1 (forestOf t (i + 1) (i + sizeAt t i)))))
         (identifier 2 (five names) (forestOf t (i + 1) (i + sizeAt t i)))))
 
     check-other : type-call (names .call) (forestOf t (i + 1) e) && identifier 2 (five names) (forestOf t (i + 1) e) ≡ false → p ≡ writes p check-recs
@@ -177,7 +177,7 @@ module _ (names : Types) (t : List ℕ) (i : ℕ) (p : Page) where
     pub check-right : false ≡ identifier 2 (five names) (forestOf t (i + 1) e) → p ≡ writes p check-recs
     check-right f = check-other (rw (sym f) (and-false (type-call (names .call) (forestOf t (i + 1) e))))
 
-    pub check-put : {c : ℕ} → c ≡ childOf t 2 (i + 1) e → Whole t i → true ≡ (eqb 31 (kindAt t i) || eqb 32 (kindAt t i))
+    pub check-put : {c : ℕ} → c ≡ childOf t 2 (i + 1) e → Subtree t i → true ≡ (eqb 31 (kindAt t i) || eqb 32 (kindAt t i))
         → true ≡ type-call (names .call) (forestOf t (i + 1) e) → true ≡ identifier 2 (five names) (forestOf t (i + 1) e) → {q : Page}
         → q ≡ write p (named-at 14 (with-value (spotAt t i) (spotAt t c .value))) → q ≡ writes p check-recs
     unfolding headAt
@@ -185,7 +185,7 @@ module _ (names : Types) (t : List ℕ) (i : ℕ) (p : Page) where
         let part : Part t (i + 1) e = rw ee (kids (w .part) (omega (arith, w .some))) in
         let le : i + 1 ≤ e = omega (arith, w .some) in
         let z : type-check (is (names .call)) (five names) (forestOf t (i + 1) (i + sizeAt t i)) ≡ true = whole-check ∙ rw (sym b, sym d) in
-        let y : place 2 (forestOf t (i + 1) (i + sizeAt t i)) ≡ spotAt t c
+        let y : spot-at 2 (forestOf t (i + 1) (i + sizeAt t i)) ≡ spotAt t c
         = rw (sym ee) (spot-is 2 part le ec (there 2 (five names) part le ec d)) in
         rw (sym a, z, y) (u ∙ sym (writes-one p _))
 

@@ -9,20 +9,21 @@ use lib.Dec.{T, eqb}
 use lib.ListN.{length}
 use borrow.Author.Tests.{eq-eqb, ne-eqb}
 use Rattle.tree.specs.Bytes.{kindAt, roleAt, sizeAt, valueAt, pick}
-use Rattle.tree.specs.Nodes.{named as holds-name}
-use Rattle.tree.specs.Forest.{Spot, Head, Forest, none, node, spotAt, headAt, forestOf, Part}
-use Rattle.tree.specs.Find.{childOf}
+use Rattle.tree.specs.Nodes.{holds-name}
+use Rattle.tree.specs.Forest.{Spot, Head, Forest, none, node, spotAt, headAt, forestOf}
+use Rattle.tree.specs.code.Part.{Part, Subtree}
+use Rattle.tree.specs.code.Find.{childOf}
 use Rattle.tree.proofs.Search.{clash}
 use Rattle.tree.proofs.Laws.{later, sized, ended, kids, rest}
 use Rattle.rules.specs.Record.{listed}
-use Rattle.rules.specs.Flow.{place}
-use Rattle.rules.specs.Order.{Bind, one, several, nothing, bindings, bind-of, look}
-use Rattle.rules.specs.Incompatible.{kind-at, identifier, Deed, defines, repeats, deed-part, named, self-set, Top, assigning, modifying, defining, loading, holding, aside, tops, top-part, deeds}
+use Rattle.rules.specs.Visit.{look, spot-at, kind-at}
+use Rattle.rules.specs.Order.{Bind, one, several, nothing, bindings, bind-of}
+use Rattle.rules.specs.Incompatible.{identifier, Deed, defines, repeats, deed-part, defined-names, self-set, Top, assigning, modifying, defining, loading, holding, aside, tops, top-part, deeds}
 use Rattle.rules.proofs.Look.{look-all}
 use Rattle.answer.proofs.Flat.{past, over, split}
 use Rattle.incompatible.specs.declared.assigns.Defined.{Defined}
-use Rattle.incompatible.specs.Ground.{Whole, Low}
-use Rattle.incompatible.specs.Known.{named-one, below-one, is-several, goes-in, top-of, deeds-one, top-assign, Does}
+use Rattle.incompatible.specs.Ground.{Low}
+use Rattle.incompatible.specs.Ledger.{named-one, below-one, is-several, goes-in, top-of, deeds-one, top-assign, Does}
 use Rattle.incompatible.proofs.Checks.{not-eqb, and-false, kind-is, spot-is, kind-missing}
 use Rattle.incompatible.proofs.Told.{does-none}
 
@@ -71,39 +72,39 @@ fewer l h = record { low = λ j k. l .low j (omega arith) }
 
 -- ---- the names of a role
 
-named-cons : (r : ℕ) (h : Head) (k s : Forest) → named r (node h k s) ≡ named-one r h k ++ named r s
-named-cons r h k s = go (eqb r (h .role)) (deed-part (bind-of h) (h .spot) (λ v. named v k))
+named-cons : (r : ℕ) (h : Head) (k s : Forest) → defined-names r (node h k s) ≡ named-one r h k ++ defined-names r s
+named-cons r h k s = go (eqb r (h .role)) (deed-part (bind-of h) (h .spot) (λ v. defined-names v k))
   where
-    go : (b : Bool) (xs : List Deed) → listed b xs (named r s) ≡ listed b xs [] ++ named r s
+    go : (b : Bool) (xs : List Deed) → listed b xs (defined-names r s) ≡ listed b xs [] ++ defined-names r s
     go true xs = rw append-nil
     go false xs = refl
 
 pub named-over : (r : ℕ) {t : List ℕ} {i e : ℕ} → Part t i e → i < e
-    → named r (forestOf t i e) ≡ named-one r (headAt t i) (forestOf t (i + 1) (i + sizeAt t i)) ++ named r (forestOf t (i + sizeAt t i) e)
-named-over r p lt = over (named r) (named-one r) refl (named-cons r) p lt
+    → defined-names r (forestOf t i e) ≡ named-one r (headAt t i) (forestOf t (i + 1) (i + sizeAt t i)) ++ defined-names r (forestOf t (i + sizeAt t i) e)
+named-over r p lt = over (defined-names r) (named-one r) refl (named-cons r) p lt
 
-pub named-past : (r : ℕ) (t : List ℕ) (i e : ℕ) → e ≤ i → named r (forestOf t i e) ≡ []
-named-past r t i e h = past (named r) (named-one r) refl (named-cons r) t i e h
+pub named-past : (r : ℕ) (t : List ℕ) (i e : ℕ) → e ≤ i → defined-names r (forestOf t i e) ≡ []
+named-past r t i e h = past (defined-names r) (named-one r) refl (named-cons r) t i e h
 
-named-down : (h : Head) (k : Forest) → named-one 0 h k ≡ below-one h ++ pick (is-several h) (named 0 k) []
+named-down : (h : Head) (k : Forest) → named-one 0 h k ≡ below-one h ++ pick (is-several h) (defined-names 0 k) []
 named-down h k = go (eqb 0 (h .role)) (ℕ-discrete (h .kind) 41)
   where
     go : (b : Bool) → Dec (h .kind ≡ 41)
-        → listed b (deed-part (bind-of h) (h .spot) (λ v. named v k)) []
-        ≡ listed b (deed-part (bind-of h) (h .spot) (λ v. [])) [] ++ pick (b && eqb 41 (h .kind)) (named 0 k) []
+        → listed b (deed-part (bind-of h) (h .spot) (λ v. defined-names v k)) []
+        ≡ listed b (deed-part (bind-of h) (h .spot) (λ v. [])) [] ++ pick (b && eqb 41 (h .kind)) (defined-names 0 k) []
     go false d = refl
     go true (yes e) = rw (e, append-nil)
-    go true (no n) = rw (not-eqb n, append-nil, append-nil, append-nil) (binds-alike (h .kind) (h .spot) (λ v. named v k) n)
+    go true (no n) = rw (not-eqb n, append-nil, append-nil, append-nil) (binds-alike (h .kind) (h .spot) (λ v. defined-names v k) n)
 
 -- node j, and what stands where the walk goes on
 pub below-step : {t : List ℕ} {j e : ℕ} → Part t j e → j < e
-    → named 0 (forestOf t j e) ≡ below-one (headAt t j) ++ named 0 (forestOf t (pick (is-several (headAt t j)) (j + 1) (j + sizeAt t j)) e)
+    → defined-names 0 (forestOf t j e) ≡ below-one (headAt t j) ++ defined-names 0 (forestOf t (pick (is-several (headAt t j)) (j + 1) (j + sizeAt t j)) e)
 below-step {t} {j} {e} p lt =
     named-over 0 p lt ∙ rw (named-down (headAt t j) (forestOf t (j + 1) (j + sizeAt t j)), append-assoc) (ap (λ (l : List Deed). below-one (headAt t j) ++ l) (go (is-several (headAt t j))))
   where
-    go : (b : Bool) → pick b (named 0 (forestOf t (j + 1) (j + sizeAt t j))) [] ++ named 0 (forestOf t (j + sizeAt t j) e)
-        ≡ named 0 (forestOf t (pick b (j + 1) (j + sizeAt t j)) e)
-    go true = sym (split (named 0) (named-one 0) refl (named-cons 0) (kids p lt) (rest p lt) (omega (arith, sized p lt)) (ended p lt))
+    go : (b : Bool) → pick b (defined-names 0 (forestOf t (j + 1) (j + sizeAt t j))) [] ++ defined-names 0 (forestOf t (j + sizeAt t j) e)
+        ≡ defined-names 0 (forestOf t (pick b (j + 1) (j + sizeAt t j)) e)
+    go true = sym (split (defined-names 0) (named-one 0) refl (named-cons 0) (kids p lt) (rest p lt) (omega (arith, sized p lt)) (ended p lt))
     go false = refl
 
 -- where a walk goes on
@@ -125,16 +126,16 @@ module _ (t o : List ℕ) (d : Defined) (role j : ℕ) (f : Forest) where
   module _ (er : roleAt t j ≡ role) where
     pub role-none : (kindAt t j ≡ 41 → ⊥) → false ≡ bound (kindAt t j) → Does t o d (named-one role (headAt t j) f) o d
     unfolding headAt
-    role-none n b = rw (eq-eqb role (roleAt t j) (sym er), binds-none (kindAt t j) (spotAt t j) (λ v. named v f) b n) (does-none t o d)
+    role-none n b = rw (eq-eqb role (roleAt t j) (sym er), binds-none (kindAt t j) (spotAt t j) (λ v. defined-names v f) b n) (does-none t o d)
 
     module _ (o′ : List ℕ) (r : Defined) where
-      pub role-several : kindAt t j ≡ 41 → Does t o d (named 0 f) o′ r → Does t o d (named-one role (headAt t j) f) o′ r
+      pub role-several : kindAt t j ≡ 41 → Does t o d (defined-names 0 f) o′ r → Does t o d (named-one role (headAt t j) f) o′ r
       unfolding headAt
       role-several k w = rw (eq-eqb role (roleAt t j) (sym er), k, append-nil) w
 
       pub role-one : true ≡ bound (kindAt t j) → Does t o d (defines (eqb (kindAt t j) 47) (spotAt t j) ∷ []) o′ r → Does t o d (named-one role (headAt t j) f) o′ r
       unfolding headAt
-      role-one b w = rw (eq-eqb role (roleAt t j) (sym er), binds-one (kindAt t j) (spotAt t j) (λ v. named v f) b) w
+      role-one b w = rw (eq-eqb role (roleAt t j) (sym er), binds-one (kindAt t j) (spotAt t j) (λ v. defined-names v f) b) w
 
 module _ (t o : List ℕ) (d : Defined) (j : ℕ) where
   pub below-other : (roleAt t j ≡ 0 → ⊥) → Does t o d (below-one (headAt t j)) o d
@@ -206,7 +207,7 @@ module _ (t : List ℕ) (i e : ℕ) (o : List ℕ) (d : Defined) (o′ : List �
       → Does t o d (repeats (spotAt t x) ∷ []) o′ r → Does t o d (top-assign (forestOf t i e)) o′ r
   assign-repeat {x} part le ex f w = rw (sym f, spot-is 5 part le ex (self-target part le ex refl f .0)) w
 
-  pub assign-named : false ≡ self-set (forestOf t i e) → Does t o d (named 5 (forestOf t i e)) o′ r → Does t o d (top-assign (forestOf t i e)) o′ r
+  pub assign-named : false ≡ self-set (forestOf t i e) → Does t o d (defined-names 5 (forestOf t i e)) o′ r → Does t o d (top-assign (forestOf t i e)) o′ r
   assign-named f w = rw (sym f) w
 
 -- ---- a statement
@@ -267,15 +268,15 @@ module _ (t o : List ℕ) (d : Defined) (i : ℕ) (f : Forest) (o′ : List ℕ)
   unfolding headAt
   stmt-assign k w = rw k w
 
-  pub stmt-modify : kindAt t i ≡ 7 → Does t o d (named 5 f) o′ r → Does t o d (deeds-one (headAt t i) f) o′ r
+  pub stmt-modify : kindAt t i ≡ 7 → Does t o d (defined-names 5 f) o′ r → Does t o d (deeds-one (headAt t i) f) o′ r
   unfolding headAt
   stmt-modify k w = rw k w
 
-  pub stmt-def : kindAt t i ≡ 12 → Does t o d (named 6 f) o′ r → Does t o d (deeds-one (headAt t i) f) o′ r
+  pub stmt-def : kindAt t i ≡ 12 → Does t o d (defined-names 6 f) o′ r → Does t o d (deeds-one (headAt t i) f) o′ r
   unfolding headAt
   stmt-def k w = rw k w
 
-  pub stmt-load : kindAt t i ≡ 13 → Does t o d (named 0 f) o′ r → Does t o d (deeds-one (headAt t i) f) o′ r
+  pub stmt-load : kindAt t i ≡ 13 → Does t o d (defined-names 0 f) o′ r → Does t o d (deeds-one (headAt t i) f) o′ r
   unfolding headAt
   stmt-load k w = rw k w
 

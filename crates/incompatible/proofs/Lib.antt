@@ -3,3 +3,4 @@ pub mod Checks
 pub mod Told
 pub mod Deeds
 pub mod Valid
+pub mod Promised

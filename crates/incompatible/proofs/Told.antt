@@ -16,48 +16,48 @@ use borrow.Author.Tests.{eq-eqb, ne-eqb}
 use Rattle.tree.specs.Bytes.{kindAt, sizeAt, valueAt}
 use Rattle.tree.specs.Forest.{Spot, spotAt}
 use Rattle.rules.specs.Record.{Rec}
-use Rattle.rules.specs.Incompatible.{Deed, defines, repeats, First, first-of, times, defined, may-repeat, judge, once, again}
+use Rattle.rules.specs.Incompatible.{Deed, defines, repeats, First, first-of, times, defined, may-repeat, repeated, once, again}
 use Rattle.answer.specs.declared.Sheet.{Sheet}
 use Rattle.answer.specs.Page.{Page, write, writes, page}
 use Rattle.answer.proofs.Laws.{writes-none, writes-one, writes-append, writes-length}
 use Rattle.incompatible.specs.declared.assigns.Defined.{Defined}
-use Rattle.incompatible.specs.Known.{Known, told-by, known-by, free-now, spend, told, knows, tells, after, first-by, known, Does}
+use Rattle.incompatible.specs.Ledger.{Ledger, told-by, ledger-by, free-now, spend, told, knows, tells, after, first-by, ledger, Does}
 
 -- ---- the rule
 
-abbrev known-of : List First → List ℕ → Known
-known-of ds xs = record { first = λ x. first-of x ds; spent = λ x. times x xs }
+abbrev ledger-of : List First → List ℕ → Ledger
+ledger-of ds xs = record { first = λ x. first-of x ds; spent = λ x. times x xs }
 
 defined-told : (o : Option First) (l : Bool) (s : Spot) (ds : List First) (xs : List ℕ) (on : List First → List Rec) (es : List Deed)
-    → ((v : List First) → on v ≡ tells es (known-of v xs))
-    → defined o l s ds on ≡ told-by o s ++ tells es (known-by o l s (known-of ds xs))
+    → ((v : List First) → on v ≡ tells es (ledger-of v xs))
+    → defined o l s ds on ≡ told-by o s ++ tells es (ledger-by o l s (ledger-of ds xs))
 defined-told none l s ds xs on es f = f (record { spot = s; loaded = l } ∷ ds)
 defined-told (some d) l s ds xs on es f = ap (λ (r : List Rec). again (d .spot) s ∷ r) (f ds)
 
-judge-told : (es : List Deed) (ds : List First) (xs : List ℕ) → judge once es ds xs ≡ tells es (known-of ds xs)
+judge-told : (es : List Deed) (ds : List First) (xs : List ℕ) → repeated once es ds xs ≡ tells es (ledger-of ds xs)
 unfolding tells
 judge-told [] ds xs = refl
 judge-told (defines l s ∷ es) ds xs =
-    defined-told (first-of (s .value) ds) l s ds xs (λ v. judge once es v xs) es (λ v. judge-told es v xs)
+    defined-told (first-of (s .value) ds) l s ds xs (λ v. repeated once es v xs) es (λ v. judge-told es v xs)
 judge-told (repeats s ∷ es) ds xs =
     go (may-repeat once (first-of (s .value) ds) (times (s .value) xs)) (judge-told es ds (s .value ∷ xs))
-    (defined-told (first-of (s .value) ds) false s ds xs (λ v. judge once es v xs) es (λ v. judge-told es v xs))
+    (defined-told (first-of (s .value) ds) false s ds xs (λ v. repeated once es v xs) es (λ v. judge-told es v xs))
   where
-    go : (b : Bool) → judge once es ds (s .value ∷ xs) ≡ tells es (known-of ds (s .value ∷ xs))
-        → defined (first-of (s .value) ds) false s ds (λ v. judge once es v xs) ≡ told-by (first-of (s .value) ds) s ++ tells es (known-by (first-of (s .value) ds) false s (known-of ds xs))
-        → elim b [ true ↦ judge once es ds (s .value ∷ xs) | false ↦ defined (first-of (s .value) ds) false s ds (λ v. judge once es v xs) ]
-        ≡ elim b [ true ↦ [] | false ↦ told-by (first-of (s .value) ds) s ] ++ tells es (elim b [ true ↦ spend (known-of ds xs) (s .value) | false ↦ known-by (first-of (s .value) ds) false s (known-of ds xs) ])
+    go : (b : Bool) → repeated once es ds (s .value ∷ xs) ≡ tells es (ledger-of ds (s .value ∷ xs))
+        → defined (first-of (s .value) ds) false s ds (λ v. repeated once es v xs) ≡ told-by (first-of (s .value) ds) s ++ tells es (ledger-by (first-of (s .value) ds) false s (ledger-of ds xs))
+        → elim b [ true ↦ repeated once es ds (s .value ∷ xs) | false ↦ defined (first-of (s .value) ds) false s ds (λ v. repeated once es v xs) ]
+        ≡ elim b [ true ↦ [] | false ↦ told-by (first-of (s .value) ds) s ] ++ tells es (elim b [ true ↦ spend (ledger-of ds xs) (s .value) | false ↦ ledger-by (first-of (s .value) ds) false s (ledger-of ds xs) ])
     go true f g = f
     go false f g = g
 
 -- ---- deeds one after the other
 
-pub tells-append : (xs ys : List Deed) (k : Known) → tells (xs ++ ys) k ≡ tells xs k ++ tells ys (after xs k)
+pub tells-append : (xs ys : List Deed) (k : Ledger) → tells (xs ++ ys) k ≡ tells xs k ++ tells ys (after xs k)
 unfolding tells after
 tells-append [] ys k = refl
 tells-append (x ∷ xs) ys k = rw (tells-append xs ys (knows x k)) (sym (append-assoc (told x k) (tells xs (knows x k)) (tells ys (after xs (knows x k)))))
 
-pub after-append : (xs ys : List Deed) (k : Known) → after (xs ++ ys) k ≡ after ys (after xs k)
+pub after-append : (xs ys : List Deed) (k : Ledger) → after (xs ++ ys) k ≡ after ys (after xs k)
 unfolding after
 after-append [] ys k = refl
 after-append (x ∷ xs) ys k = after-append xs ys (knows x k)
@@ -75,8 +75,8 @@ pub does-none : (t o : List ℕ) (d : Defined) → Does t o d [] o d
 unfolding tells after
 does-none t o d = record { wrote = sym (writes-none (page o (d .sheet))); then = refl }
 
-known-same : (k l : Known) → ((x : ℕ) → k .first x ≡ l .first x) → ((x : ℕ) → k .spent x ≡ l .spent x) → k ≡ l
-known-same k l p q = ap₂ (λ (f : ℕ → Option First) (g : ℕ → ℕ). record { first = f; spent = g }) (fun-ext p) (fun-ext q)
+ledger-same : (k l : Ledger) → ((x : ℕ) → k .first x ≡ l .first x) → ((x : ℕ) → k .spent x ≡ l .spent x) → k ≡ l
+ledger-same k l p q = ap₂ (λ (f : ℕ → Option First) (g : ℕ → ℕ). record { first = f; spent = g }) (fun-ext p) (fun-ext q)
 
 module _ (t o : List ℕ) (d : Defined) (i v : ℕ) (ev : v ≡ valueAt t i) where
   -- a name that was not defined
@@ -88,7 +88,7 @@ module _ (t o : List ℕ) (d : Defined) (i v : ℕ) (ev : v ≡ valueAt t i) whe
       let y : getD (d .first) (valueAt t i) 0 ≡ 0 = rw ev at z in
       record {
         wrote = rw (c, y) (sym (writes-none (page o (d .sheet))));
-        then = rw (a ∙ ap (λ (u : ℕ). set (d .first) u (i + 1)) ev, b, y) (known-same _ _ (λ x. rw (at-set (d .first) (valueAt t i) x (i + 1) 0 (rw ev at h)) (go x (eqb x (valueAt t i)))) (λ x. refl));
+        then = rw (a ∙ ap (λ (u : ℕ). set (d .first) u (i + 1)) ev, b, y) (ledger-same _ _ (λ x. rw (at-set (d .first) (valueAt t i) x (i + 1) 0 (rw ev at h)) (go x (eqb x (valueAt t i)))) (λ x. refl));
       }
     where
       go : (x : ℕ) (b : Bool) → first-by t (elim b [ true ↦ i + 1 | false ↦ getD (d .first) x 0 ])
@@ -107,15 +107,15 @@ module _ (t o : List ℕ) (d : Defined) (i v : ℕ) (ev : v ≡ valueAt t i) whe
       record { wrote = rw y (w ∙ sym (writes-one (page o (d .sheet)) _)); then = rw (a, b, y) }
 
   -- x = x that is free
-  pub repeat-free : (r : Defined) → v < length (d .exported) → true ≡ free-now (known t d) v
+  pub repeat-free : (r : Defined) → v < length (d .exported) → true ≡ free-now (ledger t d) v
       → r .first ≡ d .first → r .exported ≡ set (d .exported) v true → r .sheet ≡ d .sheet
       → Does t o d (repeats (spotAt t i) ∷ []) o r
   unfolding tells after spotAt
   repeat-free r h f a b c =
-      let y : free-now (known t d) (valueAt t i) ≡ true = sym (rw ev at f) in
+      let y : free-now (ledger t d) (valueAt t i) ≡ true = sym (rw ev at f) in
       record {
         wrote = rw (c, y, told) (sym (writes-none (page o (d .sheet))));
-        then = rw (a, b ∙ ap (λ (u : ℕ). set (d .exported) u true) ev, y, knows) (known-same _ _ (λ x. refl) (λ x. rw (at-set (d .exported) (valueAt t i) x true false (rw ev at h)) (go x (ℕ-discrete x (valueAt t i)))));
+        then = rw (a, b ∙ ap (λ (u : ℕ). set (d .exported) u true) ev, y, knows) (ledger-same _ _ (λ x. refl) (λ x. rw (at-set (d .exported) (valueAt t i) x true false (rw ev at h)) (go x (ℕ-discrete x (valueAt t i)))));
       }
     where
       unspent : (e : Option First) (b : Bool) → true ≡ may-repeat once e (cond b 1 0) → b ≡ false
@@ -132,38 +132,38 @@ module _ (t o : List ℕ) (d : Defined) (i v : ℕ) (ev : v ≡ valueAt t i) whe
       go x (no n) = rw (ne-eqb x (valueAt t i) n)
 
   -- x = x that is not
-  pub repeat-not : (o′ : List ℕ) (r : Defined) → kindAt t i ≡ 40 → false ≡ free-now (known t d) v
+  pub repeat-not : (o′ : List ℕ) (r : Defined) → kindAt t i ≡ 40 → false ≡ free-now (ledger t d) v
       → Does t o d (defines (eqb (kindAt t i) 47) (spotAt t i) ∷ []) o′ r → Does t o d (repeats (spotAt t i) ∷ []) o′ r
   unfolding tells after spotAt
   repeat-not o′ r k f w =
-      let y : free-now (known t d) (valueAt t i) ≡ false = sym (rw ev at f) in
+      let y : free-now (ledger t d) (valueAt t i) ≡ false = sym (rw ev at f) in
       record { wrote = rw (y, told) (w .wrote); then = rw (y, knows) (rw k at (w .then)) }
 
 -- ---- whether x = x is free
 
 module _ (t : List ℕ) (d : Defined) (v old : ℕ) (eo : old ≡ getD (d .first) v 0) where
-  pub free-none : old ≡ 0 → false ≡ free-now (known t d) v
+  pub free-none : old ≡ 0 → false ≡ free-now (ledger t d) v
   free-none z = let y : getD (d .first) v 0 ≡ 0 = sym eo ∙ z in rw y
 
   module _ (n : old ≡ 0 → ⊥) where
     some-first : getD (d .first) v 0 ≡ suc (old - 1)
     some-first = sym eo ∙ omega arith
 
-    pub free-other : (kindAt t (old - 1) ≡ 47 → ⊥) → false ≡ free-now (known t d) v
+    pub free-other : (kindAt t (old - 1) ≡ 47 → ⊥) → false ≡ free-now (ledger t d) v
     free-other k = rw (some-first, ne-eqb (kindAt t (old - 1)) 47 k)
 
-    pub free-spent : true ≡ getD (d .exported) v false → false ≡ free-now (known t d) v
+    pub free-spent : true ≡ getD (d .exported) v false → false ≡ free-now (ledger t d) v
     free-spent e = rw (some-first, sym e) (sym (and-false (eqb (kindAt t (old - 1)) 47)))
 
-    pub free-yes : kindAt t (old - 1) ≡ 47 → false ≡ getD (d .exported) v false → true ≡ free-now (known t d) v
+    pub free-yes : kindAt t (old - 1) ≡ 47 → false ≡ getD (d .exported) v false → true ≡ free-now (ledger t d) v
     free-yes k e = rw (some-first, k, sym e)
 
 -- ---- a loop: what is told so far, with what is still left to tell, comes to the whole
 
 pub record Telling (t o₀ : List ℕ) (d₀ : Defined) (all : List Deed) (o : List ℕ) (d : Defined) (left : List Deed) : Type 0 where
   pub long : length o ≡ length o₀
-  pub yet : writes (page o (d .sheet)) (tells left (known t d)) ≡ writes (page o₀ (d₀ .sheet)) (tells all (known t d₀))
-  pub then : after left (known t d) ≡ after all (known t d₀)
+  pub yet : writes (page o (d .sheet)) (tells left (ledger t d)) ≡ writes (page o₀ (d₀ .sheet)) (tells all (ledger t d₀))
+  pub then : after left (ledger t d) ≡ after all (ledger t d₀)
 
 pub telling : (t o : List ℕ) (d : Defined) (all : List Deed) → Telling t o d all o d all
 telling t o d all = record { long = refl; yet = refl; then = refl }
@@ -175,10 +175,10 @@ telling-on {t} {o₀} {d₀} {all} {o} {d} {zs} g xs ys o′ d′ w e =
       long = ap (λ (p : Page). length (p .out)) (w .wrote) ∙ writes-length (page o (d .sheet)) _ ∙ g .long;
       yet =
           rw (w .wrote, w .then)
-          (sym (writes-append (page o (d .sheet)) (tells xs (known t d)) (tells ys (after xs (known t d))))
-          ∙ ap (writes (page o (d .sheet))) (sym (tells-append xs ys (known t d)) ∙ ap (λ (l : List Deed). tells l (known t d)) (sym e)))
+          (sym (writes-append (page o (d .sheet)) (tells xs (ledger t d)) (tells ys (after xs (ledger t d))))
+          ∙ ap (writes (page o (d .sheet))) (sym (tells-append xs ys (ledger t d)) ∙ ap (λ (l : List Deed). tells l (ledger t d)) (sym e)))
           ∙ g .yet;
-      then = rw (w .then) (sym (after-append xs ys (known t d)) ∙ ap (λ (l : List Deed). after l (known t d)) (sym e)) ∙ g .then;
+      then = rw (w .then) (sym (after-append xs ys (ledger t d)) ∙ ap (λ (l : List Deed). after l (ledger t d)) (sym e)) ∙ g .then;
     }
 
 pub telling-end : {t o₀ : List ℕ} {d₀ : Defined} {all : List Deed} {o : List ℕ} {d : Defined} {zs : List Deed} → Telling t o₀ d₀ all o d zs
@@ -200,12 +200,12 @@ at-none n x a = go (decLt x n)
     go (yes h) = getD-replicate n x a a h
     go (no h) = getD-beyond (replicate n a) x a (rw length-replicate (omega arith))
 
-nothing-known : (t : List ℕ) (d : Defined) → d .first ≡ replicate 512 0 → d .exported ≡ replicate 512 false → known t d ≡ known-of [] []
+nothing-known : (t : List ℕ) (d : Defined) → d .first ≡ replicate 512 0 → d .exported ≡ replicate 512 false → ledger t d ≡ ledger-of [] []
 nothing-known t d a b =
-    known-same (known t d) (known-of [] []) (λ x. rw (a, at-none {A = ℕ} 512 x 0)) (λ x. rw (b, at-none 512 x false))
+    ledger-same (ledger t d) (ledger-of [] []) (λ x. rw (a, at-none {A = ℕ} 512 x 0)) (λ x. rw (b, at-none 512 x false))
 
 pub all-judged : (t o : List ℕ) (s : Sheet) (es : List Deed) (d : Defined) {o′ : List ℕ} {r : Defined}
     → d .first ≡ replicate 512 0 → d .exported ≡ replicate 512 false → d .sheet ≡ s → Does t o d es o′ r
-    → page o′ (r .sheet) ≡ writes (page o s) (judge once es [] [])
+    → page o′ (r .sheet) ≡ writes (page o s) (repeated once es [] [])
 all-judged t o s es d a b c w =
     w .wrote ∙ rw (c, nothing-known t d a b) (ap (writes (page o s)) (sym (judge-told es [] [])))

@@ -1,41 +1,36 @@
 -- In a valid file the numbers of the names give the list of 01. Assumes nothing.
-use Prim.Native.Nat.{ℕ, _+_, _*_, _≤_, _<_}
+use Prim.Native.Nat.{ℕ, _≤_, _<_}
 use native.Mathlib.Omega.{arith}
 use mathlib.Core.Path.{_≡_, refl, sym, ap, ap₂, _∙_}
 use mathlib.Core.List.{List, [], _∷_, _++_}
 use mathlib.Core.Bool.{Bool, true, false, _&&_, _||_}
 use lib.Dec.{eqb}
 use lib.ListN.{length, getD}
-use Rattle.tree.specs.Bytes.{u16At, nodeCount, valueCount, kindAt, sizeAt, valueAt}
-use Rattle.tree.specs.Forest.{Spot, Head, Forest, none, node, spotAt, headAt, forestOf, treeOf, Part}
+use Rattle.tree.specs.Bytes.{nodeCount, valueCount, kindAt}
+use Rattle.tree.specs.Forest.{Spot, Head, Forest, none, node, forestOf, treeOf}
 use Rattle.tree.specs.Judge.{judged}
-use Rattle.tree.specs.Sound.{Sound}
+use Rattle.tree.specs.code.Sound.{Sound}
 use Rattle.tree.specs.Table.{tableOf, spells}
 use Rattle.tree.specs.declared.Facts.{Facts}
 use Rattle.tree.specs.declared.Judged.the-variants.{Valid}
-use Rattle.tree.proofs.Laws.{forest-none, forest-node, induct}
+use Rattle.tree.proofs.Fields.{Small, small-none, small-node, part-small}
 use Rattle.tree.proofs.Whole.{sound, whole, whole-part}
 use Rattle.tree.proofs.Entries.{names-fit, value-among-names}
 use Rattle.tree.proofs.ValidTable.{spells-number}
 use Rattle.rules.specs.Record.{Rec, listed, named-at, with-value}
-use Rattle.rules.specs.Flow.{place}
-use Rattle.rules.specs.Incompatible.{each, kind-at, under, tally, identifier, type-check, check-at, deeds, judge, once, incompatible, incompatible-list, type-name, five-types, spells-one}
+use Rattle.rules.specs.Visit.{spot-at, each, kind-at, under, how-many}
+use Rattle.rules.specs.Incompatible.{identifier, type-check, check-at, deeds, repeated, once, incompatible, incompatible-list, type-name, five-types, spells-one}
 use Rattle.rules.proofs.Few.{incompatible-list-few}
 use Rattle.answer.proofs.Whole.{few-nodes}
 use Rattle.incompatible.specs.declared.types.Types.{Types}
 use Rattle.incompatible.specs.Ground.{Low}
 use Rattle.incompatible.specs.Five.{is, five, NumbersOf}
 
--- every value number of a file is below 65536
-pub data Small : Forest → Type 0 where
-  small-none : Small none
-  small-node : {h : Head} {k s : Forest} → h .spot .value < 65536 → Small k → Small s → Small (node h k s)
-
-place-small : (r : ℕ) (f : Forest) → Small f → place r f .value < 65536
+place-small : (r : ℕ) (f : Forest) → Small f → spot-at r f .value < 65536
 place-small r none w = omega arith
 place-small r (node h k s) (small-node a u v) = go (eqb r (h .role)) (place-small r s v)
   where
-    go : (b : Bool) → place r s .value < 65536 → (elim b as (λ x. Spot) [ true ↦ h .spot | false ↦ place r s ]) .value < 65536
+    go : (b : Bool) → spot-at r s .value < 65536 → (elim b as (λ x. Spot) [ true ↦ h .spot | false ↦ spot-at r s ]) .value < 65536
     go true l = a
     go false l = l
 
@@ -49,31 +44,18 @@ under-small r (node h k s) (small-node a u v) = go (eqb r (h .role)) (under-smal
 
 -- two tests that agree below 65536
 identifier-same : (p q : ℕ → Bool) → ((v : ℕ) → v < 65536 → p v ≡ q v) → (r : ℕ) (f : Forest) → Small f → identifier r p f ≡ identifier r q f
-identifier-same p q agree r f w = ap (λ (b : Bool). eqb 20 (kind-at r f) && b) (agree (place r f .value) (place-small r f w))
+identifier-same p q agree r f w = ap (λ (b : Bool). eqb 20 (kind-at r f) && b) (agree (spot-at r f .value) (place-small r f w))
 
 module _ (p q p′ q′ : ℕ → Bool) (call : (v : ℕ) → v < 65536 → p v ≡ q v) (name : (v : ℕ) → v < 65536 → p′ v ≡ q′ v) where
   check-same : (h : Head) (k : Forest) → Small k → check-at p p′ h k ≡ check-at q q′ h k
   check-same h k w =
-      ap₂ (λ (a b : Bool). listed ((eqb 31 (h .kind) || eqb 32 (h .kind)) && (eqb 23 (kind-at 1 k) && (a && (eqb 1 (tally 0 (under 1 k)) && b)))) (named-at 14 (with-value (h .spot) (place 2 k .value)) ∷ []) [])
+      ap₂ (λ (a b : Bool). listed ((eqb 31 (h .kind) || eqb 32 (h .kind)) && (eqb 23 (kind-at 1 k) && (a && (eqb 1 (how-many 0 (under 1 k)) && b)))) (named-at 14 (with-value (h .spot) (spot-at 2 k .value)) ∷ []) [])
       (identifier-same p q call 7 (under 1 k) (under-small 1 k w)) (identifier-same p′ q′ name 2 k w)
 
   each-same : (f : Forest) → Small f → each (check-at p p′) f ≡ each (check-at q q′) f
   each-same none w = refl
   each-same (node h k s) (small-node a u v) =
       ap₂ (λ (x y : List Rec). x ++ y) (check-same h k u) (ap₂ (λ (x y : List Rec). x ++ y) (each-same k u) (each-same s v))
-
-part-small : {t : List ℕ} → ((k : ℕ) → getD t k 0 < 256) → {i e : ℕ} → Part t i e → Small (forestOf t i e)
-unfolding headAt spotAt valueAt u16At
-part-small {t} bytes p = induct (λ i e. Small (forestOf t i e)) t nothing more p
-  where
-    low : (i : ℕ) → valueAt t i < 65536
-    low i = omega (arith, bytes (11 + 16 * i + 12), bytes (11 + 16 * i + 12 + 1))
-
-    nothing : (i e : ℕ) → e ≤ i → Small (forestOf t i e)
-    nothing i e h = rw (forest-none t i e h) small-none
-
-    more : (i e : ℕ) → Part t i e → i < e → Small (forestOf t (i + 1) (i + sizeAt t i)) → Small (forestOf t (i + sizeAt t i) e) → Small (forestOf t i e)
-    more i e p lt u v = rw (forest-node p lt) (small-node (low i) u v)
 
 or-false : (b : Bool) → b || false ≡ b
 or-false true = refl
@@ -100,9 +82,9 @@ module _ (t : List ℕ) (f : Facts) (valid : judged t ≡ Valid f) where
     list-is =
         let s = sound t f valid in
         rw (s .nodes)
-        (ap (λ (l : List Rec). l ++ judge once (deeds (forestOf t 0 (nodeCount t))) [] [])
+        (ap (λ (l : List Rec). l ++ repeated once (deeds (forestOf t 0 (nodeCount t))) [] [])
         (each-same (spells (tableOf t) type-name) (is (names .call)) (spells-one (tableOf t) five-types) (five names) call-same five-same
-        (forestOf t 0 (nodeCount t)) (part-small bytes (whole-part t f s))))
+        (forestOf t 0 (nodeCount t)) (part-small t bytes (whole-part t f s))))
 
   pub list-few : length (incompatible-list t) ≤ 18446744073709551615
   list-few = omega (arith, incompatible-list-few t, few-nodes t f valid)

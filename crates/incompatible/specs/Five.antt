@@ -3,11 +3,12 @@
 use Prim.Native.Nat.{ℕ}
 use mathlib.Core.List.{List, [], _∷_}
 use mathlib.Core.Path.{_≡_}
-use Rattle.tree.specs.Table.{numberNamed}
+use Rattle.tree.specs.code.Numbers.{numberNamed}
 use mathlib.Core.Bool.{Bool, _&&_, _||_}
 use lib.Dec.{eqb}
 use Rattle.tree.specs.Forest.{Forest}
-use Rattle.rules.specs.Incompatible.{kind-at, under, tally, identifier, type-name}
+use Rattle.rules.specs.Visit.{kind-at, under, how-many}
+use Rattle.rules.specs.Incompatible.{identifier, type-name}
 use Rattle.incompatible.specs.declared.types.Types.{Types}
 
 abbrev pub is : ℕ → ℕ → Bool
@@ -24,7 +25,7 @@ abbrev pub type-call : ℕ → Forest → Bool
 type-call call k =
     eqb 23 (kind-at 1 k)
     && (identifier 7 (is call) (under 1 k)
-    && eqb 1 (tally 0 (under 1 k)))
+    && eqb 1 (how-many 0 (under 1 k)))
 
 -- these are the numbers of the names in the file
 pub record NumbersOf (t : List ℕ) (names : Types) : Type 0 where

@@ -1,4 +1,4 @@
 -- What the contracts of incompatible cite.
 pub mod Ground
 pub mod Five
-pub mod Known
+pub mod Ledger

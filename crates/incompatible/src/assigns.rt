@@ -3,15 +3,15 @@ ghost use mathlib.Core.Path.{_≡_};
 ghost use mathlib.Core.List.{[], _∷_};
 ghost use mathlib.Core.Bool.{true, false, _||_};
 ghost use Prim.Native.Nat.{_+_, _≤_, _<_};
-ghost use lib.Dec.{T, eqb};
+ghost use lib.Dec.{eqb};
 ghost use lib.ListN.{getD, set, replicate};
 ghost use Rattle.tree.specs.Bytes.{kindAt, sizeAt, valueAt, pick};
-ghost use Rattle.tree.specs.Nodes.{named as holds-name};
-ghost use Rattle.tree.specs.Forest.{spotAt, headAt, forestOf, Part};
-ghost use Rattle.rules.specs.Incompatible.{again, once, judge, named, deeds, self-set, repeats, defines};
+ghost use Rattle.tree.specs.Forest.{spotAt, headAt, forestOf};
+ghost use Rattle.tree.specs.code.Part.{Part, Subtree};
+ghost use Rattle.rules.specs.Incompatible.{again, once, repeated, defined-names, deeds, self-set, repeats, defines};
 ghost use Rattle.answer.specs.Page.{write, writes, page};
-ghost use Rattle.incompatible.specs.Ground.{Whole, Low};
-ghost use Rattle.incompatible.specs.Known.{known, free-now, named-one, below-one, is-several, goes-in, top-of, deeds-one, top-assign, Does};
+ghost use Rattle.incompatible.specs.Ground.{Low};
+ghost use Rattle.incompatible.specs.Ledger.{ledger, free-now, named-one, below-one, is-several, goes-in, top-of, deeds-one, top-assign, Does};
 use answer::Note;
 use answer::Place;
 use answer::Sheet;
@@ -20,6 +20,7 @@ use tree::bytes::kind_at;
 use tree::bytes::role_at;
 use tree::bytes::size_at;
 use tree::bytes::value_at;
+use tree::bytes::widen;
 use tree::children::child_of;
 
 // By value number: the node after the one that first defined the name (0: none), and whether x = x was already free.
@@ -29,17 +30,11 @@ pub(crate) struct Defined {
     sheet: Sheet,
 }
 
-fn wide(x: u16) -> usize
-    ensures { λ r. ⌜ r ≡ x ⌝ }
-{
-    x as usize
-}
-
 fn first_of(first: &[u16], v: usize) -> usize
     ensures { λ r. ⌜ r ≡ getD (now (first .entry)) v 0 ⌝ }
 {
     if v < first.len() {
-        return wide(first[v]);
+        return widen(first[v]);
     }
     0
 }
@@ -123,7 +118,7 @@ fn ident(t: &[u8], i: usize, out: &mut [u32], d: Defined) -> Defined
 
 // x = x is free where the first definition of x is a load, once.
 fn may_repeat(t: &[u8], d: Defined, v: usize) -> bool
-    ensures { λ r. ⌜ r ≡ free-now (known (now (t .entry)) d) v ⌝ }
+    ensures { λ r. ⌜ r ≡ free-now (ledger (now (t .entry)) d) v ⌝ }
 {
     let first = d.first;
     let exported = d.exported;
@@ -182,7 +177,7 @@ fn below_next(t: &[u8], j: usize) -> usize
 
 fn below(t: &[u8], i: usize, e: usize, out: &mut [u32], d: Defined) -> Defined
     requires { ⌜ Part (now t) i e × Low (now t) e ⌝ }
-    ensures { λ r. ⌜ Does (now (t .entry)) (now (out .entry)) d (named 0 (forestOf (now (t .entry)) i e)) (now (out .exit)) r ⌝ }
+    ensures { λ r. ⌜ Does (now (t .entry)) (now (out .entry)) d (defined-names 0 (forestOf (now (t .entry)) i e)) (now (out .exit)) r ⌝ }
 {
     let mut r = d;
     let mut j = i;
@@ -194,7 +189,7 @@ fn below(t: &[u8], i: usize, e: usize, out: &mut [u32], d: Defined) -> Defined
 }
 
 fn lvalue(t: &[u8], role: usize, j: usize, out: &mut [u32], d: Defined) -> Defined
-    requires { ⌜ Whole (now t) j × Low (now t) (j + sizeAt (now t) j) ⌝ }
+    requires { ⌜ Subtree (now t) j × Low (now t) (j + sizeAt (now t) j) ⌝ }
     ensures { λ r. ⌜ Does (now (t .entry)) (now (out .entry)) d (named-one role (headAt (now (t .entry)) j) (forestOf (now (t .entry)) (j + 1) (j + sizeAt (now (t .entry)) j))) (now (out .exit)) r ⌝ }
 {
     if role_at(t, j) != role {
@@ -213,7 +208,7 @@ fn lvalue(t: &[u8], role: usize, j: usize, out: &mut [u32], d: Defined) -> Defin
 // The names of a role among the siblings from i up to e, also those of several.
 fn visit_lvalue(t: &[u8], role: usize, i: usize, e: usize, out: &mut [u32], d: Defined) -> Defined
     requires { ⌜ Part (now t) i e × Low (now t) e ⌝ }
-    ensures { λ r. ⌜ Does (now (t .entry)) (now (out .entry)) d (named role (forestOf (now (t .entry)) i e)) (now (out .exit)) r ⌝ }
+    ensures { λ r. ⌜ Does (now (t .entry)) (now (out .entry)) d (defined-names role (forestOf (now (t .entry)) i e)) (now (out .exit)) r ⌝ }
 {
     let mut r = d;
     let mut j = i;
@@ -268,7 +263,7 @@ fn assign(t: &[u8], i: usize, e: usize, out: &mut [u32], d: Defined) -> Defined
 }
 
 fn stmt(t: &[u8], i: usize, out: &mut [u32], d: Defined) -> Defined
-    requires { ⌜ Whole (now t) i × Low (now t) (i + sizeAt (now t) i) ⌝ }
+    requires { ⌜ Subtree (now t) i × Low (now t) (i + sizeAt (now t) i) ⌝ }
     ensures { λ r. ⌜ Does (now (t .entry)) (now (out .entry)) d (deeds-one (headAt (now (t .entry)) i) (forestOf (now (t .entry)) (i + 1) (i + sizeAt (now (t .entry)) i))) (now (out .exit)) r ⌝ }
 {
     let k = kind_at(t, i);
@@ -332,7 +327,7 @@ fn undefined(s: Sheet) -> Defined
 
 pub(crate) fn duplicate_top_level_assignment(t: &[u8], n: usize, out: &mut [u32], s: Sheet) -> Sheet
     requires { ⌜ Part (now t) 0 n × Low (now t) n ⌝ }
-    ensures { λ r. ⌜ page (now (out .exit)) r ≡ writes (page (now (out .entry)) s) (judge once (deeds (forestOf (now (t .entry)) 0 n)) [] []) ⌝ }
+    ensures { λ r. ⌜ page (now (out .exit)) r ≡ writes (page (now (out .entry)) s) (repeated once (deeds (forestOf (now (t .entry)) 0 n)) [] []) ⌝ }
 {
     let r = stmts(t, n, out, undefined(s));
     r.sheet

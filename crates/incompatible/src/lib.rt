@@ -1,18 +1,21 @@
 // Incompatible (002), after incompatible.rs: 14 type check, then 15 duplicate top-level assignment.
 // Cost: linear in the nodes. Stack: 1.5 KiB for what is defined, by value number.
 ghost use mathlib.Core.Path.{_≡_};
-ghost use Rattle.tree.specs.Forest.{forestOf, Part};
+ghost use Rattle.tree.specs.Forest.{forestOf};
+ghost use Rattle.tree.specs.code.Part.{Part};
 ghost use Rattle.tree.specs.Judge.{judged};
 ghost use Rattle.tree.specs.declared.Judged.the-variants.{Valid};
-ghost use Rattle.rules.specs.Incompatible.{once, incompatible, incompatible-list};
-ghost use Rattle.rules.specs.Outcome.{answered, room-after};
+ghost use Rattle.rules.specs.Incompatible.{once, incompatible};
+ghost use Rattle.rules.specs.Calls.{incompatible-call};
 ghost use Rattle.answer.specs.Page.{writes, page};
 ghost use Rattle.incompatible.specs.Ground.{Low};
 ghost use Rattle.incompatible.specs.Five.{is, five};
 use answer::Sheet;
 use answer::started;
 use rules::Answer;
+use rules::CODES;
 use rules::Refusal;
+use rules::WIDTH;
 use tree::Facts;
 use tree::Judged;
 use tree::judge;
@@ -30,23 +33,23 @@ fn lint(t: &[u8], names: types::Types, n: usize, out: &mut [u32], s: Sheet) -> S
 
 // The whole pass over a valid file, f its facts: counted first, into no room, and written where there is room for all.
 // It requires the judgement, so that the joined call judges a file once.
-pub fn lint_valid(t: &[u8], f: Facts, out: &mut [u32], tally: [usize; 17]) -> Answer
+pub fn lint_valid(t: &[u8], f: Facts, out: &mut [u32], tally: [usize; CODES]) -> Answer
     requires { ⌜ judged (now t) ≡ Valid f ⌝ }
-    ensures { λ r. ⌜ (r ≡ answered (judged (now (t .entry))) (incompatible-list (now (t .entry))) (now (out .entry)) tally) × (now (out .exit) ≡ room-after (judged (now (t .entry))) (incompatible-list (now (t .entry))) (now (out .entry))) ⌝ }
+    ensures { λ r. ⌜ record { answer = r; room = now (out .exit) } ≡ incompatible-call (now (t .entry)) (now (out .entry)) tally ⌝ }
 {
     let n = f.nodes;
     let names = types::types_of(t);
     let c = lint(t, names, n, &mut out[..0], started(tally));
     let records = c.count;
-    if out.len() / 8 < records {
+    if out.len() / WIDTH < records {
         return answer::refused(Refusal::AnswerRoom(records));
     }
     answer::listed(lint(t, names, n, out, started(tally)))
 }
 
 // The whole pass, on any bytes.
-pub fn incompatible(t: &[u8], out: &mut [u32], tally: [usize; 17]) -> Answer
-    ensures { λ r. ⌜ (r ≡ answered (judged (now (t .entry))) (incompatible-list (now (t .entry))) (now (out .entry)) tally) × (now (out .exit) ≡ room-after (judged (now (t .entry))) (incompatible-list (now (t .entry))) (now (out .entry))) ⌝ }
+pub fn incompatible(t: &[u8], out: &mut [u32], tally: [usize; CODES]) -> Answer
+    ensures { λ r. ⌜ record { answer = r; room = now (out .exit) } ≡ incompatible-call (now (t .entry)) (now (out .entry)) tally ⌝ }
 {
     let j = judge(t);
     let Judged::Valid(f) = j else {

@@ -4,11 +4,11 @@ ghost use mathlib.Core.Bool.{_||_};
 ghost use Prim.Native.Nat.{_+_, _≤_};
 ghost use lib.Dec.{eqb};
 ghost use Rattle.tree.specs.Bytes.{sizeAt};
-ghost use Rattle.tree.specs.Forest.{headAt, forestOf, Part};
-ghost use Rattle.tree.specs.Table.{numberNamed};
-ghost use Rattle.rules.specs.Incompatible.{each, tally, identifier, check-at, type-name};
+ghost use Rattle.tree.specs.Forest.{headAt, forestOf};
+ghost use Rattle.tree.specs.code.Part.{Part, Subtree};
+ghost use Rattle.rules.specs.Visit.{each, how-many};
+ghost use Rattle.rules.specs.Incompatible.{identifier, check-at};
 ghost use Rattle.answer.specs.Page.{writes, page};
-ghost use Rattle.incompatible.specs.Ground.{Whole};
 ghost use Rattle.incompatible.specs.Five.{is, five, type-call, NumbersOf};
 use answer::Note;
 use answer::Place;
@@ -94,7 +94,7 @@ fn calls_type(t: &[u8], call: usize, i: usize, e: usize) -> bool
 // Exactly one of the siblings from i up to e has role 0.
 fn one_argument(t: &[u8], i: usize, e: usize) -> bool
     requires { ⌜ Part (now t) i e × (i ≤ e) ⌝ }
-    ensures { λ r. ⌜ r ≡ eqb 1 (tally 0 (forestOf (now (t .entry)) i e)) ⌝ }
+    ensures { λ r. ⌜ r ≡ eqb 1 (how-many 0 (forestOf (now (t .entry)) i e)) ⌝ }
 {
     let j = child_of(t, 0, i, e);
     if e <= j {
@@ -132,7 +132,7 @@ fn compares(k: usize) -> bool
 }
 
 fn match_bad_type_equality(t: &[u8], names: Types, i: usize, out: &mut [u32], s: Sheet) -> Sheet
-    requires { ⌜ Whole (now t) i ⌝ }
+    requires { ⌜ Subtree (now t) i ⌝ }
     ensures { λ r. ⌜ page (now (out .exit)) r ≡ writes (page (now (out .entry)) s) (check-at (is (names .call)) (five names) (headAt (now (t .entry)) i) (forestOf (now (t .entry)) (i + 1) (i + sizeAt (now (t .entry)) i))) ⌝ }
 {
     if compares(kind_at(t, i)) {

@@ -7,7 +7,7 @@ use lib.Dec.{T, eqb, leb, leb→le, le→leb, nleb→lt, eqb→eq, eqb-refl, not
 use lib.ListN.{length, take, drop, getD, take-append-drop}
 use native.Mathlib.Omega.{arith}
 use borrow.Author.Tests.{ne-eqb, lt-leb}
-use Rattle.rules.proofs.Bools.{so, nope, and-left, and-right, both, test}
+use Rattle.base.proofs.Bools.{so, nope, and-left, and-right, both, test}
 use Rattle.json.specs.Utf8.{within, tail, Char, one, two, three-e0, three-ec, three-ed, three-ef, four-f0, four-f3, four-f4, more, second, low, high, whole, front}
 use Rattle.json.specs.Kept.{Outside}
 

@@ -5,7 +5,7 @@ use mathlib.Core.Bool.{Bool, true, false, _||_, _&&_}
 use mathlib.Core.List.{List, [], _∷_, _++_, append-assoc, append-nil}
 use lib.Dec.{T, eqb, leb, leb→le, eqb→eq}
 use native.Mathlib.Omega.{arith}
-use Rattle.rules.proofs.Bools.{or-case, and-left, and-right}
+use Rattle.base.proofs.Bools.{or-case, and-left, and-right}
 use Rattle.json.specs.Utf8.{within, one, Utf8, end, next}
 use Rattle.json.specs.Grammar.{Name, Is, Sign, Minus, digit, hexdig, blank, letter, unescaped, around}
 use Rattle.json.specs.Escape.{escaped}

@@ -7,7 +7,7 @@ use mathlib.Core.Logic.{_⊎_, inl, inr}
 use lib.Dec.{T, eqb, leb, leb→le, eqb→eq, not-T}
 use lib.ListN.{drop, length, take-append-drop}
 use native.Mathlib.Omega.{arith}
-use Rattle.rules.proofs.Bools.{so, nope, and-left, and-right, both, or-case, test}
+use Rattle.base.proofs.Bools.{so, nope, and-left, and-right, both, or-case, test}
 use Rattle.json.specs.Utf8.{within, tail, Char, one, two, three-e0, three-ec, three-ed, three-ef, four-f0, four-f3, four-f4, Utf8, next, front}
 use Rattle.json.specs.Escape.{must, six, replacement, unit, escape, escaped}
 use Rattle.json.specs.Kept.{Outside, clear, Escaped, end, kept, marked, replaced}

@@ -9,7 +9,7 @@ use lib.ListN.{length, set, drop, length-set, length-append}
 use lib.Seq.{set-append-seam, set-out}
 use lib.Dec.{ltb}
 use borrow.Author.Tests.{lt-ltb, ltb-true, ltb-false}
-use Rattle.rules.specs.Joined.{one-more}
+use Rattle.base.specs.Count.{one-more}
 use Rattle.json.specs.Page.{Page, page, write, writes, Wrote}
 
 pub writes-append : (p : Page) (a b : List ℕ) → writes p (a ++ b) ≡ writes (writes p a) b

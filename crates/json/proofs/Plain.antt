@@ -6,7 +6,7 @@ use mathlib.Core.Bool.{Bool, true, false, cond, _&&_, not}
 use mathlib.Core.List.{List, [], _∷_, _++_, append-nil}
 use lib.Dec.{T, ltb, eqb, leb, leb→le}
 use borrow.Author.Tests.{le-leb, lt-leb, ne-eqb, ltb-true, ltb-false}
-use Rattle.rules.proofs.Bools.{so, nope, and-left, and-right, both}
+use Rattle.base.proofs.Bools.{so, nope, and-left, and-right, both}
 use Rattle.json.specs.Utf8.{within, front}
 use Rattle.json.specs.Escape.{must, hex-digit, hex, hexes, unit, escape, escaped}
 use Rattle.json.specs.Digits.{decimal}

@@ -3,7 +3,7 @@ use Prim.Native.Nat.{ℕ}
 use mathlib.Core.Bool.{Bool, true, _&&_, _||_, not}
 use mathlib.Core.List.{List, [], _∷_, _++_}
 use lib.Dec.{T, eqb, leb, le→leb, nleb→lt}
-use Rattle.rules.proofs.Bools.{and-left, and-right, both, nor-left}
+use Rattle.base.proofs.Bools.{and-left, and-right, both, nor-left}
 use Rattle.json.specs.Escape.{must, hex, six, escaped}
 use Rattle.json.specs.Digits.{decimal}
 use Rattle.json.specs.Kept.{clear, Escaped, end, kept, marked, replaced}

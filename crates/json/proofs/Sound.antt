@@ -5,8 +5,8 @@ use mathlib.Core.Bool.{Bool, true, false, cond, _||_, not}
 use mathlib.Core.List.{List, [], _∷_, _++_, append-assoc, append-nil}
 use lib.Dec.{T, eqb, leb, ltb, leb→le, nleb→lt, ltb→lt, nltb→le}
 use native.Mathlib.Omega.{arith}
-use Rattle.rules.specs.Codes.{ascii}
-use Rattle.rules.proofs.Bools.{and-left, or-left, or-right, nor-left, nor-right, test}
+use Rattle.base.specs.Ascii.{ascii}
+use Rattle.base.proofs.Bools.{and-left, or-left, or-right, nor-left, nor-right, test}
 use Rattle.json.specs.Utf8.{within, Char, one, two, three-e0, three-ec, three-ed, three-ef, four-f0, four-f3, four-f4}
 use Rattle.json.specs.Grammar.{Name, Is, digit, hexdig, unescaped, Minus}
 use Rattle.json.specs.Escape.{must, hex-digit, hex, six, escaped}

@@ -4,7 +4,7 @@ use Prim.Native.Nat.{ℕ}
 use mathlib.Core.Bool.{Bool, _||_}
 use mathlib.Core.List.{List, [], _∷_, _++_}
 use lib.Dec.{eqb, T}
-use Rattle.rules.specs.Codes.{ascii}
+use Rattle.base.specs.Ascii.{ascii}
 use Rattle.json.specs.Utf8.{Char, within}
 
 -- the names of the productions

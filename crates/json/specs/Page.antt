@@ -3,7 +3,7 @@ use Prim.Native.Nat.{ℕ, _+_, _≤_}
 use mathlib.Core.Path.{_≡_}
 use mathlib.Core.List.{List, [], _∷_}
 use lib.ListN.{set}
-use Rattle.rules.specs.Joined.{one-more}
+use Rattle.base.specs.Count.{one-more}
 
 pub record Page : Type 0 where
   pub out : List ℕ

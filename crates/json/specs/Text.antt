@@ -3,7 +3,7 @@ use Prim.Native.Nat.{ℕ}
 use Prim.Native.String.{String}
 use mathlib.Core.Bool.{Bool, true, false}
 use mathlib.Core.List.{List, _∷_, _++_}
-use Rattle.rules.specs.Codes.{ascii}
+use Rattle.base.specs.Ascii.{ascii}
 use Rattle.json.specs.Escape.{escaped}
 use Rattle.json.specs.Digits.{decimal}
 

@@ -4,7 +4,7 @@ ghost use mathlib.Core.Path.{_≡_};
 ghost use mathlib.Core.List.{_∷_, _++_};
 ghost use Prim.Native.Nat.{_+_, _*_, _≤_, _<_};
 ghost use lib.ListN.{length, drop, getD};
-ghost use Rattle.rules.specs.Joined.{one-more};
+ghost use Rattle.base.specs.Count.{one-more};
 ghost use Rattle.json.specs.Page.{Wrote};
 ghost use Rattle.json.specs.Digits.{decimal};
 ghost use Rattle.json.specs.Text.{quoted as quoted-text};

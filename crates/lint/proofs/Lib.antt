@@ -1,5 +1,4 @@
--- Laws of the joined call, the demands read of it, and laws of the codes.
+-- Laws of the joined call, and the demands read of it.
 pub mod Link
 pub mod First
 pub mod Demands
-pub mod Padded

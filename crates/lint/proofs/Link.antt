@@ -1,32 +1,29 @@
 -- A link of the joined call: one list's records, then another's in the part after them, are the answer of the two as one list.
 -- Assumes nothing.
-use Prim.Native.Nat.{ℕ, _+_, _*_, _-_, _≤_}
+use Prim.Native.Nat.{ℕ, _+_, _*_, _-_, _≤_, _<_}
 use native.Mathlib.Omega.{arith}
-use mathlib.Core.Path.{_≡_, refl, sym, ap, ap₂, _∙_}
-use mathlib.Core.Bool.{Bool, true, false}
+use mathlib.Core.Path.{_≡_, sym, ap, ap₂, _∙_}
+use mathlib.Core.Logic.{_⊎_, inl, inr}
 use mathlib.Core.List.{List, [], _++_, append-nil}
 use lib.ListN.{length, take, drop, length-append, length-drop, drop-of-length-le}
-use lib.Dec.{ltb}
 use lib.Seq.{take-all, take-at, drop-at}
 use borrow.Rule.Slice.PartMut.{putMid}
-use Rattle.tree.specs.Judge.{judged}
 use Rattle.tree.specs.declared.Facts.{Facts}
 use Rattle.tree.specs.declared.Mode.{Mode}
-use Rattle.rules.specs.Record.{Rec, all-words}
+use Rattle.rules.specs.Record.{Rec, width, all-words}
 use Rattle.rules.specs.Names.{names-list}
 use Rattle.rules.specs.Flow.{flow-list}
 use Rattle.rules.specs.Incompatible.{incompatible-list}
 use Rattle.rules.specs.Dubious.{dubious-list}
 use Rattle.rules.specs.Joined.{raise-all, lint-list}
-use Rattle.rules.specs.Outcome.{room-for, refusal, answer-by, answered, room-after}
-use Rattle.rules.specs.declared.Outcome.{Outcome}
+use Rattle.rules.specs.Calls.{Done, done}
 use Rattle.rules.specs.declared.Outcome.the-variants.{Listed}
 use Rattle.rules.specs.declared.Answer.{Answer}
 use Rattle.rules.proofs.Words.{length-words, room-two}
 use Rattle.rules.proofs.Tally.{raise-append}
-use Rattle.rules.proofs.Answered.{answered-listed, room-listed}
+use Rattle.rules.proofs.Answered.{short-or-not, listed, filled, answer-same, done-short, done-listed}
 use Rattle.rules.proofs.Whole.{file-lint-few}
-use Rattle.lint.specs.Links.{about, after-flow, after-names, Sound, Fits}
+use Rattle.lint.specs.Links.{about, after-flow, after-names, Judged-valid, Fits}
 
 -- ---- a part `&mut s[a..]`
 
@@ -44,31 +41,22 @@ module _ (a : ℕ) (s : List ℕ) where
 
 -- ---- an answer of a valid file
 
-pub answer-is : (a : Answer) (o : Outcome) (y : List ℕ) → a .outcome ≡ o → a .tally ≡ y → a ≡ record { outcome = o; tally = y }
-answer-is a o y p q = ap₂ (λ (o : Outcome) (y : List ℕ). record { outcome = o; tally = y }) p q
-
-about-by : (b : Bool) (rs : List Rec) (y : List ℕ) → about (answer-by (room-for b (length rs)) rs y .outcome) ≡ length rs
-unfolding answer-by
-about-by true rs y = refl
-about-by false rs y = refl
-
 -- it is about the whole list, written or not
-pub about-list : {t : List ℕ} {facts : Facts} → Sound t facts → (rs : List Rec) (o y : List ℕ) (a : Answer) → a ≡ answered (judged t) rs o y
-    → about (a .outcome) ≡ length rs
-unfolding answered refusal
-about-list s rs o y a e =
-    ap (λ (b : Answer). about (b .outcome)) e ∙ rw (s .valid) (about-by (ltb (length o) (8 * length rs)) rs y)
+pub about-list : {t : List ℕ} {facts : Facts} → Judged-valid t facts → (rs : List Rec) (o y : List ℕ) (a : Answer) (o′ : List ℕ)
+    → _≡_ {A = Done} (record { answer = a; room = o′ }) (done rs t o y) → about (a .outcome) ≡ length rs
+about-list {t} s rs o y a o′ e = go (short-or-not (length o) (width * length rs))
+  where
+    go : (length o < width * length rs) ⊎ (width * length rs ≤ length o) → about (a .outcome) ≡ length rs
+    go (inl h) = ap (λ (d : Done). about (d .answer .outcome)) (e ∙ done-short rs t o y (s .valid) h)
+    go (inr h) = ap (λ (d : Done). about (d .answer .outcome)) (e ∙ done-listed rs t o y (s .valid) h)
 
 module _ {t : List ℕ} {facts : Facts} (rs : List Rec) (o y : List ℕ) (fits : Fits t facts rs o) where
-  whole-answer : answered (judged t) rs o y ≡ record { outcome = Listed (length rs); tally = raise-all rs y }
-  whole-answer = rw (fits .sound .valid) (answered-listed rs o y facts (fits .enough))
-
-  whole-room : room-after (judged t) rs o ≡ all-words rs ++ drop (8 * length rs) o
-  whole-room = rw (fits .sound .valid) (room-listed rs o facts (fits .enough))
+  whole : done rs t o y ≡ record { answer = listed rs y; room = filled rs o }
+  whole = done-listed rs t o y (fits .sound .valid) (fits .enough)
 
 -- ---- few records
 
-module _ {t : List ℕ} {facts : Facts} (s : Sound t facts) (mode : Mode) where
+module _ {t : List ℕ} {facts : Facts} (s : Judged-valid t facts) (mode : Mode) where
   pub length-after-flow : length (incompatible-list t) + length (dubious-list mode t) ≡ length (after-flow mode t)
   length-after-flow = sym (length-append (incompatible-list t) (dubious-list mode t))
 
@@ -91,45 +79,43 @@ module _ {t : List ℕ} {facts : Facts} (xs ys : List Rec) (o y : List ℕ) (fit
   first-fits : Fits t facts xs o
   first-fits = record { sound = fits .sound; enough = let l = length-both in omega (arith, l, fits .enough) }
 
-  module _ (o₁ : List ℕ) (n : ℕ) (left : o₁ ≡ room-after (judged t) xs o) (count : n ≡ length xs) where
-    stands : o₁ ≡ all-words xs ++ drop (8 * length xs) o
-    stands = left ∙ whole-room xs o y first-fits
+  module _ (o₁ : List ℕ) (n : ℕ) (a : Answer) (left : _≡_ {A = Done} (record { answer = a; room = o₁ }) (done xs t o y)) (count : n ≡ length xs) where
+    stands : o₁ ≡ filled xs o
+    stands = ap (λ (d : Done). d .room) (left ∙ whole xs o y first-fits)
 
-    before : take (8 * n) o₁ ≡ all-words xs
-    before = rw (stands, count) (take-at (all-words xs) (drop (8 * length xs) o) (8 * length xs) (length-words xs))
+    before : take (width * n) o₁ ≡ all-words xs
+    before = rw (stands, count) (take-at (all-words xs) (drop (width * length xs) o) (width * length xs) (length-words xs))
 
-    after : take (length o₁ - 8 * n) (drop (8 * n) o₁) ≡ drop (8 * length xs) o
+    after : take (length o₁ - width * n) (drop (width * n) o₁) ≡ drop (width * length xs) o
     after =
-        tail-lent (8 * n) o₁
-        ∙ rw (stands, count) (drop-at (all-words xs) (drop (8 * length xs) o) (8 * length xs) (length-words xs))
+        tail-lent (width * n) o₁
+        ∙ rw (stands, count) (drop-at (all-words xs) (drop (width * length xs) o) (width * length xs) (length-words xs))
 
-    pub end-inside : 8 * n ≤ length o₁
+    pub end-inside : width * n ≤ length o₁
     end-inside =
         rw (stands, length-append) (let l = length-words xs in omega (arith, l, count))
 
-    second-enough : 8 * length ys ≤ length (drop (8 * length xs) o)
+    second-enough : width * length ys ≤ length (drop (width * length xs) o)
     second-enough = rw length-drop (let l = length-both in omega (arith, l, fits .enough))
 
-    pub second-fits : Fits t facts ys (take (length o₁ - 8 * n) (drop (8 * n) o₁))
+    pub second-fits : Fits t facts ys (take (length o₁ - width * n) (drop (width * n) o₁))
     second-fits = record { sound = fits .sound; enough = rw after second-enough }
 
-    pub both-done : (a b r : Answer) (e : List ℕ) → a ≡ answered (judged t) xs o y
-        → b ≡ answered (judged t) ys (take (length o₁ - 8 * n) (drop (8 * n) o₁)) (a .tally)
-        → e ≡ room-after (judged t) ys (take (length o₁ - 8 * n) (drop (8 * n) o₁))
+    pub both-done : (b r : Answer) (e : List ℕ)
+        → _≡_ {A = Done} (record { answer = b; room = e }) (done ys t (take (length o₁ - width * n) (drop (width * n) o₁)) (a .tally))
         → r .outcome ≡ Listed (n + about (b .outcome)) → r .tally ≡ b .tally
-        → (r ≡ answered (judged t) (xs ++ ys) o y) × (putMid (8 * n) (length o₁ - 8 * n) o₁ e ≡ room-after (judged t) (xs ++ ys) o)
-    both-done a b r e p q g u w =
-        let d : List ℕ = take (length o₁ - 8 * n) (drop (8 * n) o₁) in
-        let m : about (b .outcome) ≡ length ys = about-list (fits .sound) ys d (a .tally) b q in
+        → _≡_ {A = Done} (record { answer = r; room = putMid (width * n) (length o₁ - width * n) o₁ e }) (done (xs ++ ys) t o y)
+    both-done b r e q u w =
+        let d : List ℕ = take (length o₁ - width * n) (drop (width * n) o₁) in
+        let g = q ∙ whole ys d (a .tally) second-fits in
+        let m : about (b .outcome) ≡ length ys = about-list (fits .sound) ys d (a .tally) b e q in
         let k : n + about (b .outcome) ≡ length (xs ++ ys) = let l = length-both in omega (arith, l, m, count) in
-        let i : a .tally ≡ raise-all xs y = ap (λ (z : Answer). z .tally) (p ∙ whole-answer xs o y first-fits) in
-        let j : b .tally ≡ raise-all ys (a .tally) = ap (λ (z : Answer). z .tally) (q ∙ whole-answer ys d (a .tally) second-fits) in
+        let i : a .tally ≡ raise-all xs y = ap (λ (z : Done). z .answer .tally) (left ∙ whole xs o y first-fits) in
+        let j : b .tally ≡ raise-all ys (a .tally) = ap (λ (z : Done). z .answer .tally) g in
         let z : r .tally ≡ raise-all (xs ++ ys) y = w ∙ j ∙ ap (raise-all ys) i ∙ sym (raise-append xs ys y) in
-        let v : e ≡ all-words ys ++ drop (8 * length ys) (drop (8 * length xs) o)
-        = g ∙ whole-room ys d y second-fits ∙ ap (λ (l : List ℕ). all-words ys ++ drop (8 * length ys) l) after in (
-          answer-is r (Listed (length (xs ++ ys))) (raise-all (xs ++ ys) y) (u ∙ ap Listed k) z ∙ sym (whole-answer (xs ++ ys) o y fits),
-          tail-back (8 * n) o₁ e
-              ∙ ap₂ (λ (c d : List ℕ). c ++ d) before v
-              ∙ sym (room-two xs ys o)
-              ∙ sym (whole-room (xs ++ ys) o y fits),
-        )
+        let v : e ≡ all-words ys ++ drop (width * length ys) (drop (width * length xs) o)
+        = ap (λ (z : Done). z .room) g ∙ ap (λ (l : List ℕ). all-words ys ++ drop (width * length ys) l) after in
+        let p : putMid (width * n) (length o₁ - width * n) o₁ e ≡ filled (xs ++ ys) o
+        = tail-back (width * n) o₁ e ∙ ap₂ (λ (c d : List ℕ). c ++ d) before v ∙ sym (room-two xs ys o) in
+        ap₂ (λ (c : Answer) (l : List ℕ). record { answer = c; room = l }) (answer-same r (u ∙ ap Listed k) z) p
+        ∙ sym (whole (xs ++ ys) o y fits)

@@ -1,3 +1,2 @@
 -- What the contracts of lint cite.
 pub mod Links
-pub mod Named

@@ -4,20 +4,18 @@
 ghost use mathlib.Core.Path.{_≡_};
 ghost use Prim.Native.Nat.{_+_, _-_, _≤_};
 ghost use lib.ListN.{length};
-ghost use Rattle.tree.specs.Judge.{judged};
-ghost use Rattle.rules.specs.Joined.{lint-list, no-tally};
-ghost use Rattle.rules.specs.Outcome.{answered, room-after, names-answered, names-room-after, names-work-after};
-ghost use Rattle.lint.specs.Links.{about, refusal-with, after-flow, after-names, Sound, Fits};
+ghost use Rattle.rules.specs.Calls.{done, lint-call};
+ghost use Rattle.lint.specs.Links.{about, refusal-with, after-flow, after-names, Judged-valid, Fits};
 use answer::refusal_of;
 use rules::Answer;
+use rules::CODES;
 use rules::Outcome;
 use rules::Refusal;
+use rules::WIDTH;
 use tree::Facts;
 use tree::Judged;
 use tree::Mode;
 use tree::judge;
-
-pub mod codes;
 
 // How many records an outcome is about, written or not.
 fn about(o: Outcome) -> usize
@@ -29,16 +27,17 @@ fn about(o: Outcome) -> usize
             Refusal::Tree(_) => 0,
             Refusal::WorkRoom => 0,
             Refusal::AnswerRoom(n) => n,
+            Refusal::OtherRoom(_) => 0,
         },
     }
 }
 
 // The records of flow, incompatible and dubious together, none written.
 fn rest_needed(t: &[u8], f: Facts, mode: Mode, out: &mut [u32]) -> usize
-    requires { ⌜ Sound (now t) f ⌝ }
+    requires { ⌜ Judged-valid (now t) f ⌝ }
     ensures { λ r. ⌜ (r ≡ length (after-names mode (now (t .entry)))) × (now (out .exit) ≡ now (out .entry)) ⌝ }
 {
-    let zero = [0; 17];
+    let zero = [0; CODES];
     let a = flow::lint_valid(t, f, &mut out[..0], zero);
     let b = incompatible::lint_valid(t, f, &mut out[..0], zero);
     let c = dubious::lint_valid(t, f, mode, &mut out[..0], zero);
@@ -63,28 +62,34 @@ fn after(n: usize, a: Answer) -> Answer
 }
 
 // Incompatible and dubious.
-fn from_incompatible(t: &[u8], f: Facts, mode: Mode, out: &mut [u32], tally: [usize; 17]) -> Answer
+fn from_incompatible(
+    t: &[u8],
+    f: Facts,
+    mode: Mode,
+    out: &mut [u32],
+    tally: [usize; CODES],
+) -> Answer
     requires { ⌜ Fits (now t) f (after-flow mode (now t)) (now out) ⌝ }
-    ensures { λ r. ⌜ (r ≡ answered (judged (now (t .entry))) (after-flow mode (now (t .entry))) (now (out .entry)) tally) × (now (out .exit) ≡ room-after (judged (now (t .entry))) (after-flow mode (now (t .entry))) (now (out .entry))) ⌝ }
+    ensures { λ r. ⌜ record { answer = r; room = now (out .exit) } ≡ done (after-flow mode (now (t .entry))) (now (t .entry)) (now (out .entry)) tally ⌝ }
 {
     let a = incompatible::lint_valid(t, f, out, tally);
     let o = a.outcome;
     let counts = a.tally;
     let n = about(o);
-    let end = 8 * n;
+    let end = WIDTH * n;
     after(n, dubious::lint_valid(t, f, mode, &mut out[end..], counts))
 }
 
 // Flow, incompatible and dubious.
-fn from_flow(t: &[u8], f: Facts, mode: Mode, out: &mut [u32], tally: [usize; 17]) -> Answer
+fn from_flow(t: &[u8], f: Facts, mode: Mode, out: &mut [u32], tally: [usize; CODES]) -> Answer
     requires { ⌜ Fits (now t) f (after-names mode (now t)) (now out) ⌝ }
-    ensures { λ r. ⌜ (r ≡ answered (judged (now (t .entry))) (after-names mode (now (t .entry))) (now (out .entry)) tally) × (now (out .exit) ≡ room-after (judged (now (t .entry))) (after-names mode (now (t .entry))) (now (out .entry))) ⌝ }
+    ensures { λ r. ⌜ record { answer = r; room = now (out .exit) } ≡ done (after-names mode (now (t .entry))) (now (t .entry)) (now (out .entry)) tally ⌝ }
 {
     let a = flow::lint_valid(t, f, out, tally);
     let o = a.outcome;
     let counts = a.tally;
     let n = about(o);
-    let end = 8 * n;
+    let end = WIDTH * n;
     after(n, from_incompatible(t, f, mode, &mut out[end..], counts))
 }
 
@@ -107,18 +112,19 @@ fn refusal_with(o: Outcome, rest: usize) -> Refusal
             Refusal::Tree(r) => Refusal::Tree(r),
             Refusal::WorkRoom => Refusal::WorkRoom,
             Refusal::AnswerRoom(n) => Refusal::AnswerRoom(n + rest),
+            Refusal::OtherRoom(n) => Refusal::OtherRoom(n),
         },
     }
 }
 
 // The four passes on a valid file, in which those after names have so many records.
 fn joined(t: &[u8], f: Facts, mode: Mode, work: &mut [u16], out: &mut [u32], rest: usize) -> Answer
-    requires { ⌜ Sound (now t) f × (rest ≡ length (after-names mode (now t))) ⌝ }
-    ensures { λ r. ⌜ (r ≡ names-answered (judged (now (t .entry))) (lint-list mode (now (t .entry))) (now (work .entry)) (now (out .entry)) no-tally) × (now (out .exit) ≡ names-room-after (judged (now (t .entry))) (lint-list mode (now (t .entry))) (now (work .entry)) (now (out .entry))) × (now (work .exit) ≡ names-work-after (judged (now (t .entry))) (lint-list mode (now (t .entry))) (now (work .entry)) (now (out .entry))) ⌝ }
+    requires { ⌜ Judged-valid (now t) f × (rest ≡ length (after-names mode (now t))) ⌝ }
+    ensures { λ r. ⌜ record { answer = r; room = now (out .exit); work = now (work .exit) } ≡ lint-call mode (now (t .entry)) (now (work .entry)) (now (out .entry)) ⌝ }
 {
-    let room = out.len() / 8;
-    let lent = 8 * spare(room, rest);
-    let zero = [0; 17];
+    let room = out.len() / WIDTH;
+    let lent = WIDTH * spare(room, rest);
+    let zero = [0; CODES];
     let a = names::lint_valid(t, f, work, &mut out[..lent], zero);
     let o = a.outcome;
     let counts = a.tally;
@@ -128,13 +134,13 @@ fn joined(t: &[u8], f: Facts, mode: Mode, work: &mut [u16], out: &mut [u32], res
     if room < rest {
         return answer::refused(refusal_with(o, rest));
     }
-    let end = 8 * n;
+    let end = WIDTH * n;
     after(n, from_flow(t, f, mode, &mut out[end..], counts))
 }
 
 // Every call of lint is this one: warnings or one numbered refusal.
 pub fn lint(t: &[u8], mode: Mode, work: &mut [u16], out: &mut [u32]) -> Answer
-    ensures { λ r. ⌜ (r ≡ names-answered (judged (now (t .entry))) (lint-list mode (now (t .entry))) (now (work .entry)) (now (out .entry)) no-tally) × (now (out .exit) ≡ names-room-after (judged (now (t .entry))) (lint-list mode (now (t .entry))) (now (work .entry)) (now (out .entry))) × (now (work .exit) ≡ names-work-after (judged (now (t .entry))) (lint-list mode (now (t .entry))) (now (work .entry)) (now (out .entry))) ⌝ }
+    ensures { λ r. ⌜ record { answer = r; room = now (out .exit); work = now (work .exit) } ≡ lint-call mode (now (t .entry)) (now (work .entry)) (now (out .entry)) ⌝ }
 {
     let j = judge(t);
     let Judged::Valid(f) = j else {

@@ -5,8 +5,12 @@ ghost use Prim.Native.Nat.{min};
 ghost use lib.ListN.{getD};
 ghost use Rattle.tree.specs.declared.Mode.the-variants.{Ordinary, Strict};
 ghost use Rattle.lint_c.specs.Face.{numberOf, placeOf, laid, called};
+use rules::CODES;
 use rules::Outcome;
 use tree::Mode;
+
+// The words of a report: a place, then the count of each code.
+const REPORT: usize = CODES + 1;
 
 fn number_of(o: Outcome) -> usize
     ensures { λ r. ⌜ r ≡ numberOf o ⌝ }
@@ -27,13 +31,13 @@ fn place_of(o: Outcome) -> usize
 }
 
 // Word k of a report: the count of a code stands at the code's own number.
-fn word(place: usize, tally: [usize; 17], k: usize) -> usize
+fn word(place: usize, tally: [usize; CODES], k: usize) -> usize
     ensures { λ r. ⌜ r ≡ getD (place ∷ tally) k 0 ⌝ }
 {
     if k < 1 {
         return place;
     }
-    if k < 18 {
+    if k < REPORT {
         return tally[k - 1];
     }
     0
@@ -49,10 +53,10 @@ fn least(a: usize, b: usize) -> usize
 }
 
 // A room of any length gets the words that it has room for.
-fn tell(place: usize, tally: [usize; 17], report: &mut [usize])
+fn tell(place: usize, tally: [usize; CODES], report: &mut [usize])
     ensures { λ _. ⌜ now (report .exit) ≡ laid (place ∷ tally) (now (report .entry)) ⌝ }
 {
-    let n = least(18, report.len());
+    let n = least(REPORT, report.len());
     let mut k = 0;
     while k < n {
         report[k] = word(place, tally, k);

@@ -6,7 +6,8 @@ use mathlib.Core.Bool.{Bool, cond, _&&_, _||_}
 use mathlib.Core.List.{List}
 use lib.Dec.{eqb}
 use Rattle.tree.specs.Bytes.{valueAt}
-use Rattle.tree.specs.Forest.{Head, Forest, none, node, spotAt, headAt, forestOf, Part}
+use Rattle.tree.specs.Forest.{Head, Forest, none, node, spotAt, headAt, forestOf}
+use Rattle.tree.specs.code.Part.{Part}
 use Rattle.tree.proofs.Laws.{forest-none, forest-node, induct}
 use Rattle.rules.specs.Order.{Cmd, skip, _⨟_, stop, fails, Form, picked, part, form-of, step, takes, fail-named, fail-called, Want, of-role, every, first-over, first-bound, clauses}
 

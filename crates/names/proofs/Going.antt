@@ -9,17 +9,18 @@ use Rattle.tree.specs.Bytes.{pick}
 use Rattle.tree.specs.Table.{tableOf, underscored}
 use Rattle.rules.specs.Names.{Abort, abort-of, unloop}
 use Rattle.rules.specs.Order.{Cmd, Stop, skip, _⨟_, use-of, set-of, stop, branch, loop, scope, picked}
-use Rattle.rules.specs.Marks.{House, tour, Every, Every-rounds, mid, enter-house, leave-house, stop-room, round-house, rounds-house}
-use Rattle.names.specs.State.{abortOf, roomOf, roomsOf, outOf, houseOf, Fits, Inside, Kept}
-use Rattle.names.specs.Words.{with-abort, unloopOf, backScope, mergedScope, joinScope, enterScope, leaveWords, leaveScope}
-use Rattle.names.specs.Does.{Room-for, Does}
+use Rattle.rules.specs.code.Marks.{House, tour, Every, Every-rounds, mid, enter-house, leave-house, stop-room, round-house, rounds-house}
+use Rattle.scope.specs.State.{abortOf, roomOf, roomsOf, outOf, houseOf, Fits, Inside, Kept}
+use Rattle.scope.specs.Words.{with-abort, unloopOf, backScope, mergedScope, joinScope, enterScope, leaveWords, leaveScope}
+use Rattle.scope.specs.Does.{Room-for, Does}
 use Rattle.names.specs.Walk.{Goes, Turns}
-use Rattle.names.specs.declared.scope.Abort.{Abort as Halt}
-use Rattle.names.specs.declared.scope.Abort.the-variants.{Runs, Loop, Function}
-use Rattle.names.specs.declared.scope.Scope.{Scope}
-use Rattle.names.proofs.Lists.{places-none}
-use Rattle.names.proofs.Kept.{kept-same, kept-on, inside-kept}
-use Rattle.names.proofs.Methods.{both, Methods}
+use Rattle.scope.specs.declared.Abort.{Abort as Halt}
+use Rattle.scope.specs.declared.Abort.the-variants.{Runs, Loop, Function}
+use Rattle.scope.specs.declared.Scope.{Scope}
+use Rattle.scope.proofs.Lists.{places-none}
+use Rattle.scope.proofs.Kept.{kept-same, kept-on, inside-kept}
+use Rattle.scope.proofs.Sides.{both}
+use Rattle.names.proofs.Methods.{Methods}
 
 -- what holds at every moment holds at the first
 every-now : (u : ℕ → Bool) (P : House → Type 0) (c : Cmd) (d : ℕ) (m : House) → Every u P d c m → P m

@@ -4,18 +4,18 @@ use native.Mathlib.Omega.{arith}
 use mathlib.Core.Path.{_≡_}
 use mathlib.Core.List.{List, [], _∷_}
 use lib.ListN.{length}
-use Rattle.rules.specs.Marks.{House}
-use Rattle.names.specs.State.{baseIn, roomOf, roomsOf, outOf, houseOf, Fits, Kept}
-use Rattle.names.specs.Words.{enterScope, closedOf}
-use Rattle.names.specs.Does.{Does, Room-for}
-use Rattle.names.specs.declared.scope.Scope.{Scope}
-use Rattle.names.proofs.Kept.{fits-over, inside-over}
+use Rattle.rules.specs.code.Marks.{House}
+use Rattle.scope.specs.State.{baseIn, roomOf, roomsOf, outOf, houseOf, Fits, Kept}
+use Rattle.scope.specs.Words.{enterScope, closedOf}
+use Rattle.scope.specs.Does.{Does, Room-for}
+use Rattle.scope.specs.declared.Scope.{Scope}
+use Rattle.scope.proofs.Kept.{fits-over, inside-over}
 use Rattle.names.proofs.Methods.{Methods, closing}
-use Rattle.names.proofs.Sides.{back-house, join-fits, join-below, join-house}
-use Rattle.names.proofs.Sets.{set-does}
-use Rattle.names.proofs.Uses.{used-does}
-use Rattle.names.proofs.Passing as passing
-use Rattle.names.proofs.Closing.{closed-warns}
+use Rattle.scope.proofs.Sides.{back-house, join-fits, join-below, join-house}
+use Rattle.scope.proofs.Sets.{set-does}
+use Rattle.scope.proofs.Uses.{used-does}
+use Rattle.scope.proofs.Passing as passing
+use Rattle.scope.proofs.Closing.{closed-warns}
 
 -- asked for less
 weaker : {t : List ℕ} {P Q : House → Type 0} {f : House → House} {w v : List ℕ} {s r : Scope} → ((m : House) → Q m → P m) → Does t P f w s v r → Does t Q f w s v r
@@ -35,8 +35,8 @@ module _ {w v : List ℕ} {s b : Scope} (f : Fits w s) (g : Fits v b) (k : Kept 
   unfolding enterScope
   bases j h = k .bases j (omega (arith, f .first))
 
-left-out : (t v : List ℕ) (b s : Scope) (outer : List Scope) → Room-for (Rattle.rules.specs.Marks.leave-house (Rattle.tree.specs.Table.underscored (Rattle.tree.specs.Table.tableOf t)) (houseOf t v b (s ∷ outer)) (houseOf t v b (s ∷ outer) .above))
-    → length (Rattle.rules.specs.Marks.farewell-room (Rattle.tree.specs.Table.underscored (Rattle.tree.specs.Table.tableOf t)) (mathlib.Core.Bool.Bool.false) (roomOf t v b) (outOf t v (b .warnings))) ≤ 1024
+left-out : (t v : List ℕ) (b s : Scope) (outer : List Scope) → Room-for (Rattle.rules.specs.code.Marks.leave-house (Rattle.tree.specs.Table.underscored (Rattle.tree.specs.Table.tableOf t)) (houseOf t v b (s ∷ outer)) (houseOf t v b (s ∷ outer) .above))
+    → length (Rattle.rules.specs.code.Marks.farewell-room (Rattle.tree.specs.Table.underscored (Rattle.tree.specs.Table.tableOf t)) (mathlib.Core.Bool.Bool.false) (roomOf t v b) (outOf t v (b .warnings))) ≤ 1024
 unfolding houseOf roomsOf
 left-out t v b s outer p = p .3
 

@@ -1,26 +1,11 @@
--- Laws of the words, what each method does to the house of rules' Marks, and how the walk goes through the tree.
-pub mod Lists
-pub mod Alike
-pub mod Find
-pub mod Seeks
-pub mod Steps
-pub mod Cells
-pub mod Over
-pub mod Frames
-pub mod Sets
-pub mod Notes
-pub mod Uses
-pub mod Leaves
-pub mod Passing
-pub mod Closing
-pub mod Kept
+-- How the walk goes through the tree, and what the call answers.
 pub mod Methods
 pub mod Going
 pub mod Parts
 pub mod Rows
-pub mod Sides
 pub mod Held
 pub mod Starts
 pub mod Fails
 pub mod Whole
 pub mod Telling
+pub mod Promised

@@ -8,21 +8,18 @@ use Rattle.tree.specs.Bytes.{kindAt}
 use Rattle.tree.specs.Forest.{spotAt}
 use Rattle.tree.specs.Table.{tableOf, underscored, globalsOf}
 use Rattle.rules.specs.Order.{use-of, set-of}
-use Rattle.rules.specs.Marks.{House, join-room, leave-house, mid, farewell-room, undefined-room}
+use Rattle.rules.specs.code.Marks.{House, leave-house, mid, farewell-room, undefined-room}
 use Rattle.rules.specs.Names.{Warning}
-use Rattle.names.specs.State.{sortOf, no-entry, outOf, houseOf, Fits, Inside, Kept}
-use Rattle.names.specs.Words.{addedWords, setScope, usedWords, usedScope, backScope, joinScope, enterScope, leaveWords, leaveScope, closedOf}
-use Rattle.names.specs.Does.{Room-for}
+use Rattle.scope.specs.State.{sortOf, no-entry, outOf, houseOf, Fits, Inside, Kept}
+use Rattle.scope.specs.Words.{addedWords, setScope, usedWords, usedScope, backScope, joinScope, enterScope, leaveWords, leaveScope, closedOf}
+use Rattle.scope.specs.Does.{Room-for}
 use Rattle.names.specs.Walk.{Goes}
-use Rattle.names.specs.declared.scope.Scope.{Scope}
+use Rattle.scope.specs.declared.Scope.{Scope}
+use Rattle.scope.proofs.Sides.{both}
 
 -- the module is left
 abbrev pub closing : List ℕ → House → List Warning
 closing t m = undefined-room (globalsOf t) (m .here) (farewell-room (underscored (tableOf t)) true (m .here) (m .out))
-
--- both sides of a branch, the second having gone on from the first
-abbrev pub both : House → House → House
-both one two = record { here = join-room (one .here) (two .here); above = two .above; out = two .out }
 
 pub record Methods (t : List ℕ) : Type 0 where
   pub set : (d : ℕ) (w : List ℕ) (s : Scope) (i : ℕ) → Fits w s → i < 1024

@@ -8,15 +8,17 @@ use mathlib.Core.Bool.{Bool, true, false, cond}
 use mathlib.Core.List.{List, [], _∷_}
 use lib.Dec.{eqb}
 use borrow.Author.Tests.{ne-eqb}
-use Rattle.tree.specs.Bytes.{kindAt, roleAt, sizeAt}
-use Rattle.tree.specs.Forest.{spotAt, headAt, forestOf, Part}
-use Rattle.tree.specs.Find.{childOf, kidOf}
+use Rattle.tree.specs.Bytes.{pick, kindAt, roleAt, sizeAt}
+use Rattle.tree.specs.Forest.{spotAt, headAt, forestOf}
+use Rattle.tree.specs.code.Part.{Part}
+use Rattle.tree.specs.code.Find.{childOf, kidOf}
 use Rattle.tree.proofs.Laws.{forest-none, forest-node, kids, first, sized, later}
 use Rattle.tree.proofs.Find.{child-end, child-here, child-next, child-ge}
 use Rattle.tree.proofs.Find as find
-use Rattle.rules.specs.Order.{skip, _⨟_, use-of, set-of, stop, branch, loop, scope, breaks, bare, valued, fails, Form, forms, look, broken-by, has, Sort, Bind, bindings, bind-part, binds, use-part, uses, part, picked, step, takes, Want, first-over, first-bound, clauses}
-use Rattle.names.specs.State.{sortOf}
-use Rattle.names.specs.Walk.{named-by, kidsOf, wantOf, wantedOf, namesOf, visitOf, downOf, nodeOf, bindNode, useNode, bindsIn, bindOf, usesIn, useOf, Node, clausesOf, overOf, boundOf, failOf}
+use Rattle.rules.specs.Visit.{look, has}
+use Rattle.rules.specs.Order.{skip, _⨟_, use-of, set-of, stop, branch, loop, scope, breaks, bare, valued, fails, Form, forms, broken-by, Sort, Bind, bindings, bind-part, binds, use-part, uses, part, picked, step, takes, Want, first-over, first-bound, clauses}
+use Rattle.scope.specs.State.{sortOf}
+use Rattle.names.specs.Walk.{named-by, kidsOf, wantOf, wantedOf, namesOf, visitOf, downOf, nodeOf, nameNode, namesIn, bindOf, useOf, Node, clausesOf, overOf, boundOf, failOf}
 
 -- the parts of a node
 pub kids-of : {t : List ℕ} {c d : ℕ} → Node t c d → Part t (c + 1) (c + sizeAt t c)
@@ -98,80 +100,57 @@ module _ (t : List ℕ) (f : ℕ) where
   unfolding clausesOf
   clauses-end i e h = visit-end clauses i e h
 
--- the names of siblings
+-- the names of siblings, used where u, else set
 module _ (t : List ℕ) (r : ℕ) where
-  pub binds-end : (i e : ℕ) → e ≤ i → bindsIn t r i e ≡ skip
-  unfolding bindsIn
-  binds-end i e h = ap (binds r) (forest-none t i e h)
+  pub names-end : (u : Bool) (i e : ℕ) → e ≤ i → namesIn u t r i e ≡ skip
+  unfolding namesIn
+  names-end true i e h = ap (uses r) (forest-none t i e h)
+  names-end false i e h = ap (binds r) (forest-none t i e h)
 
-  pub binds-next : {i e : ℕ} → Part t i e → i < e → bindsIn t r i e ≡ picked (eqb r (roleAt t i)) (bindNode t i) (bindsIn t r (i + sizeAt t i) e)
-  unfolding bindsIn bindNode kidsOf headAt
-  binds-next {i} {e} p lt = ap (binds r) (forest-node p lt)
+  pub names-next : (u : Bool) {i e : ℕ} → Part t i e → i < e → namesIn u t r i e ≡ picked (eqb r (roleAt t i)) (nameNode u t i) (namesIn u t r (i + sizeAt t i) e)
+  unfolding namesIn nameNode kidsOf headAt
+  names-next true p lt = ap (uses r) (forest-node p lt)
+  names-next false p lt = ap (binds r) (forest-node p lt)
 
-  pub uses-end : (i e : ℕ) → e ≤ i → usesIn t r i e ≡ skip
-  unfolding usesIn
-  uses-end i e h = ap (uses r) (forest-none t i e h)
-
-  pub uses-next : {i e : ℕ} → Part t i e → i < e → usesIn t r i e ≡ picked (eqb r (roleAt t i)) (useNode t i) (usesIn t r (i + sizeAt t i) e)
-  unfolding usesIn useNode kidsOf headAt
-  uses-next {i} {e} p lt = ap (uses r) (forest-node p lt)
-
-  pub bind-binds : (c : ℕ) → bindOf t r c ≡ bindsIn t r (c + 1) (c + sizeAt t c)
-  unfolding bindOf bindsIn kidsOf
-  bind-binds c = refl
-
-  pub use-uses : (c : ℕ) → useOf t r c ≡ usesIn t r (c + 1) (c + sizeAt t c)
-  unfolding useOf usesIn kidsOf
-  use-uses c = refl
+  pub names-kids : (u : Bool) (c : ℕ) → pick u (useOf t r c) (bindOf t r c) ≡ namesIn u t r (c + 1) (c + sizeAt t c)
+  unfolding useOf bindOf namesIn kidsOf
+  names-kids u c = refl
 
 -- the names of a node, by its kind
 module _ (t : List ℕ) (c : ℕ) where
-  bind-kind : (k : ℕ) → kindAt t c ≡ k → bindNode t c ≡ bind-part (look k bindings Bind.nothing) (headAt t c) (λ v. bindOf t v c)
-  unfolding bindNode headAt bindOf
-  bind-kind k q = ap (λ (z : ℕ). bind-part (look z bindings Bind.nothing) (headAt t c) (λ v. bindOf t v c)) q
+  name-kind : (u : Bool) (k : ℕ) → kindAt t c ≡ k
+      → nameNode u t c ≡ pick u (use-part (look k bindings Bind.nothing) (headAt t c) (λ v. useOf t v c)) (bind-part (look k bindings Bind.nothing) (headAt t c) (λ v. bindOf t v c))
+  unfolding nameNode headAt useOf bindOf
+  name-kind u k q = ap (λ (z : ℕ). pick u (use-part (look z bindings Bind.nothing) (headAt t c) (λ v. useOf t v c)) (bind-part (look z bindings Bind.nothing) (headAt t c) (λ v. bindOf t v c))) q
 
-  use-kind : (k : ℕ) → kindAt t c ≡ k → useNode t c ≡ use-part (look k bindings Bind.nothing) (headAt t c) (λ v. useOf t v c)
-  unfolding useNode headAt useOf
-  use-kind k q = ap (λ (z : ℕ). use-part (look z bindings Bind.nothing) (headAt t c) (λ v. useOf t v c)) q
+  pub name-several : (u : Bool) → kindAt t c ≡ 41 → nameNode u t c ≡ pick u (useOf t 0 c) (bindOf t 0 c)
+  name-several u q = name-kind u 41 q
 
-  pub bind-several : kindAt t c ≡ 41 → bindNode t c ≡ bindOf t 0 c
-  bind-several q = bind-kind 41 q
-
-  pub use-several : kindAt t c ≡ 41 → useNode t c ≡ useOf t 0 c
-  use-several q = use-kind 41 q
-
-  bind-one : (k : ℕ) (o : Sort) → look k bindings Bind.nothing ≡ Bind.one o → sortOf k ≡ o → kindAt t c ≡ k → bindNode t c ≡ set-of (sortOf (kindAt t c)) (spotAt t c)
+  -- of kind k, which binds a name of sort o
+  name-one : (u : Bool) (k : ℕ) (o : Sort) → look k bindings Bind.nothing ≡ Bind.one o → sortOf k ≡ o → kindAt t c ≡ k
+      → nameNode u t c ≡ pick u (use-of (spotAt t c)) (set-of (sortOf (kindAt t c)) (spotAt t c))
   unfolding headAt
-  bind-one k o e h q = bind-kind k q ∙ ap (λ (z : Bind). bind-part z (headAt t c) (λ v. bindOf t v c)) e ∙ ap (λ (z : Sort). set-of z (spotAt t c)) (sym (ap sortOf q ∙ h))
+  name-one u k o e h q =
+      name-kind u k q
+      ∙ ap (λ (z : Bind). pick u (use-part z (headAt t c) (λ v. useOf t v c)) (bind-part z (headAt t c) (λ v. bindOf t v c))) e
+      ∙ ap (λ (z : Sort). pick u (use-of (spotAt t c)) (set-of z (spotAt t c))) (sym (ap sortOf q ∙ h))
 
-  use-one : (k : ℕ) (o : Sort) → look k bindings Bind.nothing ≡ Bind.one o → kindAt t c ≡ k → useNode t c ≡ use-of (spotAt t c)
-  unfolding headAt
-  use-one k o e q = use-kind k q ∙ ap (λ (z : Bind). use-part z (headAt t c) (λ v. useOf t v c)) e
-
-  pub bind-name : namesOf (kindAt t c) ≡ true → bindNode t c ≡ set-of (sortOf (kindAt t c)) (spotAt t c)
+  pub name-name : (u : Bool) → namesOf (kindAt t c) ≡ true → nameNode u t c ≡ pick u (use-of (spotAt t c)) (set-of (sortOf (kindAt t c)) (spotAt t c))
   unfolding sortOf
-  bind-name h = go (ℕ-discrete (kindAt t c) 40) (ℕ-discrete (kindAt t c) 43) (ℕ-discrete (kindAt t c) 47)
+  name-name u h = go (ℕ-discrete (kindAt t c) 40) (ℕ-discrete (kindAt t c) 43) (ℕ-discrete (kindAt t c) 47)
     where
-      go : Dec (kindAt t c ≡ 40) → Dec (kindAt t c ≡ 43) → Dec (kindAt t c ≡ 47) → bindNode t c ≡ set-of (sortOf (kindAt t c)) (spotAt t c)
-      go (yes q) y z = bind-one 40 Sort.assign refl refl q
-      go (no x) (yes q) z = bind-one 43 Sort.argument refl refl q
-      go (no x) (no y) (yes q) = bind-one 47 Sort.load refl refl q
+      go : Dec (kindAt t c ≡ 40) → Dec (kindAt t c ≡ 43) → Dec (kindAt t c ≡ 47) → nameNode u t c ≡ pick u (use-of (spotAt t c)) (set-of (sortOf (kindAt t c)) (spotAt t c))
+      go (yes q) y z = name-one u 40 Sort.assign refl refl q
+      go (no x) (yes q) z = name-one u 43 Sort.argument refl refl q
+      go (no x) (no y) (yes q) = name-one u 47 Sort.load refl refl q
       go (no x) (no y) (no z) = absurd (not-names (kindAt t c) x y z h)
 
-  pub use-name : namesOf (kindAt t c) ≡ true → useNode t c ≡ use-of (spotAt t c)
-  use-name h = go (ℕ-discrete (kindAt t c) 40) (ℕ-discrete (kindAt t c) 43) (ℕ-discrete (kindAt t c) 47)
+  pub name-other : (u : Bool) → (kindAt t c ≡ 41 → ⊥) → namesOf (kindAt t c) ≡ false → nameNode u t c ≡ skip
+  name-other u x h = name-kind u (kindAt t c) refl ∙ rw (none-bound (kindAt t c) x h) (still u)
     where
-      go : Dec (kindAt t c ≡ 40) → Dec (kindAt t c ≡ 43) → Dec (kindAt t c ≡ 47) → useNode t c ≡ use-of (spotAt t c)
-      go (yes q) y z = use-one 40 Sort.assign refl q
-      go (no x) (yes q) z = use-one 43 Sort.argument refl q
-      go (no x) (no y) (yes q) = use-one 47 Sort.load refl q
-      go (no x) (no y) (no z) = absurd (not-names (kindAt t c) x y z h)
-
-  pub bind-other : (kindAt t c ≡ 41 → ⊥) → namesOf (kindAt t c) ≡ false → bindNode t c ≡ skip
-  bind-other x h = bind-kind (kindAt t c) refl ∙ ap (λ (z : Bind). bind-part z (headAt t c) (λ v. bindOf t v c)) (none-bound (kindAt t c) x h)
-
-  pub use-other : (kindAt t c ≡ 41 → ⊥) → namesOf (kindAt t c) ≡ false → useNode t c ≡ skip
-  use-other x h = use-kind (kindAt t c) refl ∙ ap (λ (z : Bind). use-part z (headAt t c) (λ v. useOf t v c)) (none-bound (kindAt t c) x h)
+      still : (v : Bool) → pick v skip skip ≡ skip
+      still true = refl
+      still false = refl
 
 -- a node, by its kind
 look-plain : (k : ℕ) → (k ≡ 1 → ⊥) → (k ≡ 2 → ⊥) → (k ≡ 4 → ⊥) → (k ≡ 5 → ⊥) → (k ≡ 6 → ⊥) → (k ≡ 7 → ⊥) → (k ≡ 8 → ⊥) → (k ≡ 9 → ⊥)

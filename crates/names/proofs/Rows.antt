@@ -3,23 +3,25 @@ use Prim.Native.Nat.{ℕ, suc, _+_, _≤_, _<_}
 use native.Mathlib.Omega.{arith}
 use native.Mathlib.Numerals.{add-one}
 use mathlib.Core.Path.{_≡_, refl, sym, ap, _∙_}
-use mathlib.Core.Bool.{Bool, true, false, cond, _||_}
+use mathlib.Core.Bool.{Bool, true, false, cond}
 use mathlib.Core.List.{List}
 use lib.Dec.{eqb}
 use borrow.Author.Tests.{ne-eqb, le-leb, lt-leb}
-use Rattle.tree.specs.Bytes.{pick, kindAt, roleAt, sizeAt, valueAt}
-use Rattle.tree.specs.Forest.{Spot, headAt, spotAt, forestOf, Part}
-use Rattle.tree.specs.Find.{childOf, kidOf}
-use Rattle.tree.proofs.Laws.{later, forest-none, forest-node}
-use Rattle.rules.specs.Order.{Cmd, Want, skip, _⨟_, loop, valued, bare, has, fail-named, fail-called}
+use Rattle.tree.specs.Bytes.{pick, kindAt, roleAt, sizeAt}
+use Rattle.tree.specs.Forest.{Spot, headAt, forestOf}
+use Rattle.tree.specs.code.Part.{Part}
+use Rattle.tree.specs.code.Find.{childOf, kidOf}
+use Rattle.tree.proofs.Laws.{later}
+use Rattle.rules.specs.Visit.{has}
+use Rattle.rules.specs.Order.{Cmd, Want, skip, _⨟_, loop, valued, bare, fail-called}
 use Rattle.rules.specs.Names.{abort-of}
-use Rattle.names.specs.State.{abortOf, Fits}
-use Rattle.names.specs.Words.{with-abort}
-use Rattle.names.specs.declared.scope.Abort.the-variants.{Function}
-use Rattle.names.specs.Walk.{Goes, Turns, Node, named-by, kidsOf, wantOf, wantedOf, namesOf, visitOf, downOf, nodeOf, bindNode, useNode, bindsIn, bindOf, usesIn, useOf, clausesOf, clauseOf, namedOf, callOf, callsFail, failOf}
-use Rattle.names.specs.declared.scope.Scope.{Scope}
+use Rattle.scope.specs.State.{abortOf, Fits}
+use Rattle.scope.specs.Words.{with-abort}
+use Rattle.scope.specs.declared.Abort.the-variants.{Function}
+use Rattle.names.specs.Walk.{Goes, Turns, Node, named-by, kidsOf, wantOf, wantedOf, namesOf, visitOf, downOf, nodeOf, nameNode, namesIn, bindOf, useOf, clausesOf, clauseOf, failOf}
+use Rattle.scope.specs.declared.Scope.{Scope}
 use Rattle.names.proofs.Going.{skips, then, picks, goes-as, stop-to, loops-twice, loops-once}
-use Rattle.names.proofs.Parts.{node-return, kids-of, node-of, visit-end, visit-next, down-visit, clauses-end, clauses-next, binds-end, binds-next, uses-end, uses-next, bind-binds, use-uses}
+use Rattle.names.proofs.Parts.{node-return, kids-of, node-of, visit-end, visit-next, down-visit, clauses-end, clauses-next, names-end, names-next, names-kids}
 
 module _ {t : List ℕ} {d : ℕ} (f : ℕ) where
   pub visit-on : (r : ℕ) {c e : ℕ} → Part t c e → c < e → {w v x : List ℕ} {s q y : Scope}
@@ -39,38 +41,13 @@ module _ {t : List ℕ} {d : ℕ} (f : ℕ) where
   pub clauses-last : (c e : ℕ) → e ≤ c → {w : List ℕ} {s : Scope} → Fits w s → Goes t d (clausesOf t f c e) w s w s
   clauses-last c e h g = goes-as (clauses-end t f c e h) (skips g)
 
-module _ {t : List ℕ} (r : ℕ) {d : ℕ} where
-  pub binds-on : {c e : ℕ} → Part t c e → c < e → {w v x : List ℕ} {s q y : Scope}
-      → Goes t d (pick (eqb r (roleAt t c)) (bindNode t c) skip) w s v q → Goes t d (bindsIn t r (c + sizeAt t c) e) v q x y → Goes t d (bindsIn t r c e) w s x y
-  binds-on {c} {e} p lt g h = goes-as (binds-next t r p lt) (picks (eqb r (roleAt t c)) (bindNode t c) (bindsIn t r (c + sizeAt t c) e) g h)
+module _ {t : List ℕ} (r : ℕ) (u : Bool) {d : ℕ} where
+  pub names-on : {c e : ℕ} → Part t c e → c < e → {w v x : List ℕ} {s q y : Scope}
+      → Goes t d (pick (eqb r (roleAt t c)) (nameNode u t c) skip) w s v q → Goes t d (namesIn u t r (c + sizeAt t c) e) v q x y → Goes t d (namesIn u t r c e) w s x y
+  names-on {c} {e} p lt g h = goes-as (names-next t r u p lt) (picks (eqb r (roleAt t c)) (nameNode u t c) (namesIn u t r (c + sizeAt t c) e) g h)
 
-  pub binds-last : (c e : ℕ) → e ≤ c → {w : List ℕ} {s : Scope} → Fits w s → Goes t d (bindsIn t r c e) w s w s
-  binds-last c e h g = goes-as (binds-end t r c e h) (skips g)
-
-  pub uses-on : {c e : ℕ} → Part t c e → c < e → {w v x : List ℕ} {s q y : Scope}
-      → Goes t d (pick (eqb r (roleAt t c)) (useNode t c) skip) w s v q → Goes t d (usesIn t r (c + sizeAt t c) e) v q x y → Goes t d (usesIn t r c e) w s x y
-  uses-on {c} {e} p lt g h = goes-as (uses-next t r p lt) (picks (eqb r (roleAt t c)) (useNode t c) (usesIn t r (c + sizeAt t c) e) g h)
-
-  pub uses-last : (c e : ℕ) → e ≤ c → {w : List ℕ} {s : Scope} → Fits w s → Goes t d (usesIn t r c e) w s w s
-  uses-last c e h g = goes-as (uses-end t r c e h) (skips g)
-
--- the tests for fail
-module _ (t : List ℕ) (f : ℕ) where
-  pub named-end : (i e : ℕ) → e ≤ i → fail-named (named-by f) (forestOf t i e) ≡ false
-  named-end i e h = ap (fail-named (named-by f)) (forest-none t i e h)
-
-  pub named-next : {i e : ℕ} → Part t i e → i < e
-      → fail-named (named-by f) (forestOf t i e) ≡ (namedOf t f i || fail-named (named-by f) (forestOf t (i + sizeAt t i) e))
-  unfolding headAt spotAt namedOf
-  named-next p lt = ap (fail-named (named-by f)) (forest-node p lt)
-
-  pub called-end : (i e : ℕ) → e ≤ i → fail-called (named-by f) (forestOf t i e) ≡ false
-  called-end i e h = ap (fail-called (named-by f)) (forest-none t i e h)
-
-  pub called-next : {i e : ℕ} → Part t i e → i < e
-      → fail-called (named-by f) (forestOf t i e) ≡ (callsFail t f i || fail-called (named-by f) (forestOf t (i + sizeAt t i) e))
-  unfolding headAt callsFail callOf kidsOf
-  called-next p lt = ap (fail-called (named-by f)) (forest-node p lt)
+  pub names-last : (c e : ℕ) → e ≤ c → {w : List ℕ} {s : Scope} → Fits w s → Goes t d (namesIn u t r c e) w s w s
+  names-last c e h g = goes-as (names-end t r u c e h) (skips g)
 
 -- a node's own parts, by its size as read
 module _ (t : List ℕ) (c z : ℕ) (q : z ≡ sizeAt t c) where
@@ -80,11 +57,12 @@ module _ (t : List ℕ) (c z : ℕ) (q : z ≡ sizeAt t c) where
   pub down-as : (f : ℕ) (v : Want) → downOf t f v c ≡ visitOf t f v (c + 1) (c + z)
   down-as f v = rw q (down-visit t f v c)
 
-  pub bind-as : (r : ℕ) → bindOf t r c ≡ bindsIn t r (c + 1) (c + z)
-  bind-as r = rw q (bind-binds t r c)
+  pub names-as : (r : ℕ) (u : Bool) → pick u (useOf t r c) (bindOf t r c) ≡ namesIn u t r (c + 1) (c + z)
+  names-as r u = rw q (names-kids t r u c)
 
-  pub use-as : (r : ℕ) → useOf t r c ≡ usesIn t r (c + 1) (c + z)
-  use-as r = rw q (use-uses t r c)
+  pub fail-as : (f : ℕ) {d : ℕ} {b : Bool} → Node t c d → (Part t (c + 1) (c + z) → b ≡ fail-called (named-by f) (forestOf t (c + 1) (c + z))) → b ≡ failOf t f c
+  unfolding failOf kidsOf
+  fail-as f n h = (rw q at h) (kids-of n)
 
   pub kid-as : (r : ℕ) {x : ℕ} → x ≡ childOf t r (c + 1) (c + z) → x ≡ kidOf t r c
   kid-as r e = rw q at e
@@ -167,9 +145,9 @@ pub names-second : {k : ℕ} → k ≡ 43 → true ≡ namesOf k
 unfolding namesOf
 names-second q = rw q
 
-pub names-last : {k : ℕ} → (k ≡ 40 → ⊥) → (k ≡ 43 → ⊥) → eqb k 47 ≡ namesOf k
+pub names-third : {k : ℕ} → (k ≡ 40 → ⊥) → (k ≡ 43 → ⊥) → eqb k 47 ≡ namesOf k
 unfolding namesOf
-names-last {k} a b = rw (ne-eqb k 40 a, ne-eqb k 43 b)
+names-third {k} a b = rw (ne-eqb k 40 a, ne-eqb k 43 b)
 
 module _ (t : List ℕ) (r c : ℕ) where
   pub wanted-every : r ≡ 9 → true ≡ wantedOf t r c
@@ -179,58 +157,6 @@ module _ (t : List ℕ) (r c : ℕ) where
   pub wanted-role : (r ≡ 9 → ⊥) → {z : ℕ} → z ≡ roleAt t c → eqb r z ≡ wantedOf t r c
   unfolding wantedOf
   wanted-role a q = rw (q, ne-eqb r 9 a)
-
-module _ (t : List ℕ) (f i : ℕ) where
-  pub named-role : (roleAt t i ≡ 7 → ⊥) → false ≡ namedOf t f i
-  unfolding namedOf
-  named-role a = rw (ne-eqb 7 (roleAt t i) (λ z. a (sym z)))
-
-  pub named-kind : roleAt t i ≡ 7 → (kindAt t i ≡ 20 → ⊥) → false ≡ namedOf t f i
-  unfolding namedOf
-  named-kind q a = rw (q, ne-eqb 20 (kindAt t i) (λ z. a (sym z)))
-
-  pub named-value : roleAt t i ≡ 7 → kindAt t i ≡ 20 → {z : ℕ} → z ≡ valueAt t i → eqb z f ≡ namedOf t f i
-  unfolding namedOf
-  named-value q k e = rw (q, k, e)
-
-  pub calls-role : (roleAt t i ≡ 4 → ⊥) → false ≡ callsFail t f i
-  unfolding callsFail
-  calls-role a = rw (ne-eqb 4 (roleAt t i) (λ z. a (sym z)))
-
-  pub calls-kind : roleAt t i ≡ 4 → (kindAt t i ≡ 23 → ⊥) → false ≡ callsFail t f i
-  unfolding callsFail
-  calls-kind q a = rw (q, ne-eqb 23 (kindAt t i) (λ z. a (sym z)))
-
-  pub calls-so : roleAt t i ≡ 4 → kindAt t i ≡ 23 → {b : Bool} → b ≡ callOf t f i → b ≡ callsFail t f i
-  unfolding callsFail
-  calls-so q k e = rw (q, k) e
-
-module _ (t : List ℕ) (f : ℕ) {i e : ℕ} where
-  pub named-hit : Part t i e → i < e → namedOf t f i ≡ true → {b : Bool} → fail-named (named-by f) (forestOf t i e) ≡ b → true ≡ b
-  named-hit p lt h q = sym (named-next t f p lt ∙ rw h) ∙ q
-
-  pub named-miss : Part t i e → i < e → namedOf t f i ≡ false → {b : Bool} → fail-named (named-by f) (forestOf t i e) ≡ b → fail-named (named-by f) (forestOf t (i + sizeAt t i) e) ≡ b
-  named-miss p lt h q = sym (named-next t f p lt ∙ rw h) ∙ q
-
-  pub named-out : e ≤ i → {b : Bool} → fail-named (named-by f) (forestOf t i e) ≡ b → false ≡ b
-  named-out h q = sym (named-end t f i e h) ∙ q
-
-  pub called-hit : Part t i e → i < e → callsFail t f i ≡ true → {b : Bool} → fail-called (named-by f) (forestOf t i e) ≡ b → true ≡ b
-  called-hit p lt h q = sym (called-next t f p lt ∙ rw h) ∙ q
-
-  pub called-miss : Part t i e → i < e → callsFail t f i ≡ false → {b : Bool} → fail-called (named-by f) (forestOf t i e) ≡ b → fail-called (named-by f) (forestOf t (i + sizeAt t i) e) ≡ b
-  called-miss p lt h q = sym (called-next t f p lt ∙ rw h) ∙ q
-
-  pub called-out : e ≤ i → {b : Bool} → fail-called (named-by f) (forestOf t i e) ≡ b → false ≡ b
-  called-out h q = sym (called-end t f i e h) ∙ q
-
-pub call-start : (t : List ℕ) (f c z : ℕ) → z ≡ sizeAt t c → fail-named (named-by f) (forestOf t (c + 1) (c + z)) ≡ callOf t f c
-unfolding callOf kidsOf
-call-start t f c z q = rw q
-
-pub fail-start : (t : List ℕ) (f c z : ℕ) → z ≡ sizeAt t c → fail-called (named-by f) (forestOf t (c + 1) (c + z)) ≡ failOf t f c
-unfolding failOf kidsOf
-fail-start t f c z q = rw q
 
 pub name-so : {k m : ℕ} {b y : Bool} → k ≡ m → b ≡ namesOf k → b ≡ y → namesOf m ≡ y
 name-so e h q = ap namesOf (sym e) ∙ sym h ∙ q

@@ -4,25 +4,27 @@ use native.Mathlib.Omega.{arith}
 use mathlib.Core.Path.{_≡_, refl, ap, _∙_}
 use mathlib.Core.List.{List, []}
 use lib.ListN.{length, getD, replicate, length-replicate}
-use Rattle.tree.specs.Table.{tableOf, underscored, globalsOf, numberNamed}
+use Rattle.tree.specs.Table.{tableOf, underscored, globalsOf}
+use Rattle.tree.specs.code.Numbers.{numberNamed}
 use Rattle.rules.specs.Order.{Cmd, fail-name}
-use Rattle.rules.specs.Marks.{Every, tour, start, names-tour}
-use Rattle.names.specs.State.{no-entry, roomOf, roomsOf, warningIn, outOf, houseOf, Fits, Inside}
-use Rattle.names.specs.Words.{newScope, closedOf}
-use Rattle.names.specs.Does.{Room-for}
+use Rattle.rules.specs.code.Marks.{Every, tour, start, names-tour}
+use Rattle.scope.specs.State.{no-entry, roomOf, roomsOf, warningIn, outOf, houseOf, Fits, Inside}
+use Rattle.scope.specs.Words.{newScope, closedOf}
+use Rattle.scope.specs.Does.{Room-for}
 use Rattle.names.specs.Walk.{Goes, wantOf, visitOf, moduleOf}
-use Rattle.names.specs.declared.scope.Scope.{Scope}
-use Rattle.names.proofs.Lists.{places-none}
-use Rattle.names.proofs.Kept.{inside-kept}
+use Rattle.scope.specs.declared.Scope.{Scope}
+use Rattle.scope.proofs.Lists.{places-none}
+use Rattle.scope.proofs.Kept.{inside-kept}
 use Rattle.names.proofs.Going.{every-end}
 use Rattle.names.proofs.Methods.{Methods}
+use Rattle.rules.specs.Outcome.{work-words}
 
 blank : (n k : ℕ) → getD (replicate n no-entry) k no-entry ≡ no-entry
 blank zero k = refl
 blank (suc n) zero = refl
 blank (suc n) (suc k) = blank n k
 
-pub new-fits : {w : List ℕ} {s : Scope} → 32768 ≤ length w → s ≡ newScope → Fits w s
+pub new-fits : {w : List ℕ} {s : Scope} → work-words ≤ length w → s ≡ newScope → Fits w s
 unfolding newScope
 new-fits h e = rw e (
     record {

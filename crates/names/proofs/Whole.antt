@@ -4,35 +4,33 @@ use native.Mathlib.Omega.{arith}
 use mathlib.Core.Path.{_≡_, sym, ap, _∙_}
 use mathlib.Core.List.{List, map}
 use lib.ListN.{getD}
-use Rattle.tree.specs.Bytes.{u16At, nodeAt, valueAt}
+use Rattle.tree.specs.Bytes.{valueAt}
 use Rattle.tree.specs.Forest.{forestOf, treeOf}
-use Rattle.tree.specs.Table.{tableOf, underscored, spells, globalsOf, numberNamed}
+use Rattle.tree.specs.Table.{tableOf, underscored, spells, globalsOf}
+use Rattle.tree.specs.code.Numbers.{numberNamed}
 use Rattle.tree.specs.Judge.{judged}
 use Rattle.tree.specs.declared.Facts.{Facts}
 use Rattle.tree.specs.declared.Judged.the-variants.{Valid}
 use Rattle.tree.proofs.Whole.{sound, whole}
 use Rattle.tree.proofs.ValidTable.{spells-number}
+use Rattle.tree.proofs.Fields.{value-low}
 use Rattle.rules.specs.Order.{body, fail-name, of-role, takes}
 use Rattle.rules.specs.Names.{names-list, told}
-use Rattle.rules.specs.Marks.{House, start, names-tour, nodes}
+use Rattle.rules.specs.code.Marks.{House, start, names-tour, nodes}
 use Rattle.rules.proofs.Marked.{tour-names}
 use Rattle.rules.proofs.Bounds.{every-map}
 use Rattle.rules.proofs.Seven.{Capacity}
 use Rattle.rules.proofs.Out.{names-few}
 use Rattle.rules.proofs.Whole.{file-nodes, file-capacity}
-use Rattle.names.specs.Does.{Room-for}
+use Rattle.scope.specs.Does.{Room-for}
 use Rattle.names.specs.Walk.{named-by, wantOf, visitOf, moduleOf, Ready}
 use Rattle.names.proofs.Fails.{takes-same}
 
 module _ (t : List ℕ) (f : Facts) (v : judged t ≡ Valid f) (bytes : (k : ℕ) → getD t k 0 < 256) where
-  value-few : (j : ℕ) → valueAt t j < 65536
-  unfolding valueAt u16At
-  value-few j = omega (arith, bytes (nodeAt j + 12), bytes (nodeAt j + 12 + 1))
-
   pub same-tree : moduleOf t (f .nodes) ≡ body (spells (tableOf t) fail-name) (treeOf t)
   unfolding moduleOf visitOf wantOf treeOf
   same-tree =
-      takes-same (named-by (numberNamed t fail-name)) (spells (tableOf t) fail-name) (λ j. sym (spells-number t f v fail-name (valueAt t j) (value-few j))) (whole t f v) (of-role 0)
+      takes-same (named-by (numberNamed t fail-name)) (spells (tableOf t) fail-name) (λ j. sym (spells-number t f v fail-name (valueAt t j) (value-low t bytes j))) (whole t f v) (of-role 0)
       ∙ ap (λ (n : ℕ). takes (spells (tableOf t) fail-name) (of-role 0) (forestOf t 0 n)) (sound t f v .nodes)
 
   nodes-few : nodes (treeOf t) ≤ 1024

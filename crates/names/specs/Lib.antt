@@ -1,7 +1,3 @@
 -- What the contracts of names cite.
-pub mod Lists
-pub mod State
-pub mod Words
-pub mod Does
 pub mod Walk
 pub mod Answers

@@ -1,16 +1,18 @@
 -- What the walk does for each part of the tree that it goes through. Assumes nothing.
 use Prim.Native.Nat.{ℕ, _+_, _≤_}
-use mathlib.Core.Bool.{Bool, _&&_, _||_}
+use mathlib.Core.Bool.{Bool, _||_}
 use mathlib.Core.List.{List}
 use lib.Dec.{eqb}
 use lib.ListN.{length}
-use Rattle.tree.specs.Bytes.{pick, kindAt, roleAt, sizeAt, valueAt}
-use Rattle.tree.specs.Forest.{Forest, headAt, forestOf, Part}
-use Rattle.tree.specs.Table.{tableOf, underscored, globalsOf, numberNamed}
-use Rattle.rules.specs.Order.{Cmd, skip, _⨟_, Want, of-role, every, first-over, first-bound, clauses, bind-part, bind-of, binds, use-part, uses, part, form-of, takes, fail-name, fail-named, fail-called}
-use Rattle.rules.specs.Marks.{Every, Every-round, round-house, tour, start, names-tour}
-use Rattle.names.specs.Does.{Room-for, Does}
-use Rattle.names.specs.declared.scope.Scope.{Scope}
+use Rattle.tree.specs.Bytes.{pick, roleAt, sizeAt}
+use Rattle.tree.specs.Forest.{Forest, headAt, forestOf}
+use Rattle.tree.specs.code.Part.{Part}
+use Rattle.tree.specs.Table.{tableOf, underscored, globalsOf}
+use Rattle.tree.specs.code.Numbers.{numberNamed}
+use Rattle.rules.specs.Order.{Cmd, skip, _⨟_, Want, of-role, every, first-over, first-bound, clauses, bind-part, bind-of, binds, use-part, uses, part, form-of, takes, fail-name, fail-called}
+use Rattle.rules.specs.code.Marks.{Every, Every-round, round-house, tour, start, names-tour}
+use Rattle.scope.specs.Does.{Room-for, Does}
+use Rattle.scope.specs.declared.Scope.{Scope}
 
 -- From s and the words w to r and the words v: the house is as rules' tour of c leaves it, wherever it has room all the way.
 pub record Goes (t : List ℕ) (d : ℕ) (c : Cmd) (w : List ℕ) (s : Scope) (v : List ℕ) (r : Scope) : Type 0 where
@@ -49,25 +51,19 @@ wantedOf t r c = eqb r 9 || eqb r (roleAt t c)
 unfoldable pub namesOf : ℕ → Bool
 namesOf k = eqb k 40 || (eqb k 43 || eqb k 47)
 
--- the names that node c binds, set or used
-unfoldable pub bindNode : List ℕ → ℕ → Cmd
-bindNode t c = bind-part (bind-of (headAt t c)) (headAt t c) (λ v. binds v (kidsOf t c))
-
-unfoldable pub useNode : List ℕ → ℕ → Cmd
-useNode t c = use-part (bind-of (headAt t c)) (headAt t c) (λ v. uses v (kidsOf t c))
-
--- the names that children of role r bind, from node i up to e, set or used
-unfoldable pub bindsIn : List ℕ → ℕ → ℕ → ℕ → Cmd
-bindsIn t r i e = binds r (forestOf t i e)
-
+-- the names that children of role r of node c bind, set and used
 unfoldable pub bindOf : List ℕ → ℕ → ℕ → Cmd
 bindOf t r c = binds r (kidsOf t c)
 
-unfoldable pub usesIn : List ℕ → ℕ → ℕ → ℕ → Cmd
-usesIn t r i e = uses r (forestOf t i e)
-
 unfoldable pub useOf : List ℕ → ℕ → ℕ → Cmd
 useOf t r c = uses r (kidsOf t c)
+
+-- the names that node c binds, and that the nodes of role r from i up to e bind: used where u, else set
+unfoldable pub nameNode : Bool → List ℕ → ℕ → Cmd
+nameNode u t c = pick u (use-part (bind-of (headAt t c)) (headAt t c) (λ v. uses v (kidsOf t c))) (bind-part (bind-of (headAt t c)) (headAt t c) (λ v. binds v (kidsOf t c)))
+
+unfoldable pub namesIn : Bool → List ℕ → ℕ → ℕ → ℕ → Cmd
+namesIn u t r i e = pick u (uses r (forestOf t i e)) (binds r (forestOf t i e))
 
 -- node c and all below it, with d loops around it
 pub record Node (t : List ℕ) (c d : ℕ) : Type 0 where
@@ -88,16 +84,7 @@ overOf t f c = downOf t f first-over c
 unfoldable pub boundOf : List ℕ → ℕ → ℕ → Cmd
 boundOf t f c = downOf t f first-bound c
 
--- node i is the identifier fail as a function; a child of node c is; node i is an expression that calls it; a child of node c is
-unfoldable pub namedOf : List ℕ → ℕ → ℕ → Bool
-namedOf t f i = eqb 7 (roleAt t i) && (eqb 20 (kindAt t i) && eqb (valueAt t i) f)
-
-unfoldable pub callOf : List ℕ → ℕ → ℕ → Bool
-callOf t f c = fail-named (named-by f) (kidsOf t c)
-
-unfoldable pub callsFail : List ℕ → ℕ → ℕ → Bool
-callsFail t f i = eqb 4 (roleAt t i) && (eqb 23 (kindAt t i) && callOf t f i)
-
+-- an expression of statement c is a call of fail
 unfoldable pub failOf : List ℕ → ℕ → ℕ → Bool
 failOf t f c = fail-called (named-by f) (kidsOf t c)
 

@@ -7,12 +7,13 @@ ghost use lib.ListN.{length, replicate};
 ghost use Rattle.tree.specs.Judge.{judged};
 ghost use Rattle.tree.specs.declared.Judged.the-variants.{Valid};
 ghost use Rattle.tree.specs.Table.{tableOf, underscored, globalsOf};
-ghost use Rattle.rules.specs.Names.{told, names-list};
-ghost use Rattle.rules.specs.Marks.{names-tour};
-ghost use Rattle.rules.specs.Outcome.{names-answered, names-room-after, names-work-after};
+ghost use Rattle.rules.specs.Names.{told};
+ghost use Rattle.rules.specs.code.Marks.{names-tour};
+ghost use Rattle.rules.specs.Outcome.{work-words};
+ghost use Rattle.rules.specs.Calls.{names-call};
 ghost use Rattle.answer.specs.Page.{write, writes, page};
 ghost use Rattle.names.specs.Answers.{Answers};
-ghost use Rattle.names.specs.State.{outOf, warningIn};
+ghost use Rattle.scope.specs.State.{outOf, warningIn};
 ghost use Rattle.names.specs.Walk.{moduleOf, Ready};
 use answer::Note;
 use answer::Place;
@@ -20,24 +21,24 @@ use answer::Sheet;
 use answer::put;
 use answer::started;
 use rules::Answer;
+use rules::CODES;
 use rules::Refusal;
+use rules::WIDTH;
+use rules::WORK_WORDS;
 use scope::Scope;
-use table::CODE;
-use table::ROOM;
-use table::WARN;
-use table::word_at;
+use scope::table::CODE;
+use scope::table::WARN;
+use scope::table::word_at;
 use tree::Facts;
 use tree::Judged;
 use tree::judge;
 use tree::lookup::number_of;
 
-mod scope;
-mod table;
 mod walk;
 
 // The walk of the n nodes of a file: how many warnings stand in the work room.
 fn walked(t: &[u8], n: usize, w: &mut [u16]) -> usize
-    requires { ⌜ Ready (now t) n × (32768 ≤ length (now w)) ⌝ }
+    requires { ⌜ Ready (now t) n × (work-words ≤ length (now w)) ⌝ }
     ensures { λ r. ⌜ (r ≤ 1024) × (outOf (now (t .entry)) (now (w .exit)) r ≡ names-tour (underscored (tableOf (now (t .entry)))) (globalsOf (now (t .entry))) (moduleOf (now (t .entry)) n)) ⌝ }
 {
     let f = number_of(t, b"fail");
@@ -81,11 +82,11 @@ fn records(t: &[u8], w: &[u16], n: usize, out: &mut [u32], s: Sheet) -> Sheet
 }
 
 // What n warnings answer: their records, where there is room for all.
-fn answer_of(t: &[u8], w: &[u16], n: usize, out: &mut [u32], tally: [usize; 17]) -> Answer
+fn answer_of(t: &[u8], w: &[u16], n: usize, out: &mut [u32], tally: [usize; CODES]) -> Answer
     requires { ⌜ n ≤ 1024 ⌝ }
     ensures { λ r. ⌜ Answers (map told (outOf (now (t .entry)) (now (w .entry)) n)) (now (out .entry)) tally r (now (out .exit)) ⌝ }
 {
-    if out.len() / 8 < n {
+    if out.len() / WIDTH < n {
         return answer::refused(Refusal::AnswerRoom(n));
     }
     answer::listed(records(t, w, n, out, started(tally)))
@@ -102,8 +103,8 @@ fn clear(w: &mut [u16])
 }
 
 // The pass over the n nodes of a valid file, its work room left zero.
-fn lint(t: &[u8], n: usize, w: &mut [u16], out: &mut [u32], tally: [usize; 17]) -> Answer
-    requires { ⌜ Ready (now t) n × (32768 ≤ length (now w)) ⌝ }
+fn lint(t: &[u8], n: usize, w: &mut [u16], out: &mut [u32], tally: [usize; CODES]) -> Answer
+    requires { ⌜ Ready (now t) n × (work-words ≤ length (now w)) ⌝ }
     ensures { λ r. ⌜ Answers (map told (names-tour (underscored (tableOf (now (t .entry)))) (globalsOf (now (t .entry))) (moduleOf (now (t .entry)) n))) (now (out .entry)) tally r (now (out .exit)) × (now (w .exit) ≡ replicate (length (now (w .entry))) 0) ⌝ }
 {
     let r = walked(t, n, w);
@@ -119,20 +120,20 @@ pub fn lint_valid(
     f: Facts,
     work: &mut [u16],
     out: &mut [u32],
-    tally: [usize; 17],
+    tally: [usize; CODES],
 ) -> Answer
     requires { ⌜ judged (now t) ≡ Valid f ⌝ }
-    ensures { λ r. ⌜ (r ≡ names-answered (judged (now (t .entry))) (names-list (now (t .entry))) (now (work .entry)) (now (out .entry)) tally) × (now (out .exit) ≡ names-room-after (judged (now (t .entry))) (names-list (now (t .entry))) (now (work .entry)) (now (out .entry))) × (now (work .exit) ≡ names-work-after (judged (now (t .entry))) (names-list (now (t .entry))) (now (work .entry)) (now (out .entry))) ⌝ }
+    ensures { λ r. ⌜ record { answer = r; room = now (out .exit); work = now (work .exit) } ≡ names-call (now (t .entry)) (now (work .entry)) (now (out .entry)) tally ⌝ }
 {
-    if work.len() < ROOM {
+    if work.len() < WORK_WORDS {
         return answer::refused(Refusal::WorkRoom);
     }
-    lint(t, f.nodes, &mut work[..ROOM], out, tally)
+    lint(t, f.nodes, &mut work[..WORK_WORDS], out, tally)
 }
 
 // The whole pass, on any bytes.
-pub fn names(t: &[u8], work: &mut [u16], out: &mut [u32], tally: [usize; 17]) -> Answer
-    ensures { λ r. ⌜ (r ≡ names-answered (judged (now (t .entry))) (names-list (now (t .entry))) (now (work .entry)) (now (out .entry)) tally) × (now (out .exit) ≡ names-room-after (judged (now (t .entry))) (names-list (now (t .entry))) (now (work .entry)) (now (out .entry))) × (now (work .exit) ≡ names-work-after (judged (now (t .entry))) (names-list (now (t .entry))) (now (work .entry)) (now (out .entry))) ⌝ }
+pub fn names(t: &[u8], work: &mut [u16], out: &mut [u32], tally: [usize; CODES]) -> Answer
+    ensures { λ r. ⌜ record { answer = r; room = now (out .exit); work = now (work .exit) } ≡ names-call (now (t .entry)) (now (work .entry)) (now (out .entry)) tally ⌝ }
 {
     let j = judge(t);
     let Judged::Valid(f) = j else {

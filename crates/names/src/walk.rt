@@ -1,21 +1,21 @@
 // The walk: statements, branches, loops, expressions. d: how many for statements enclose the place; f: the number of the name fail.
 // A scope is a kilobyte and the walk recurs: where it spares a frame one, a call's result goes where its argument was.
 ghost use mathlib.Core.Path.{_≡_};
-ghost use mathlib.Core.Logic.{_≢_};
 ghost use Prim.Native.Nat.{ℕ, _+_, _<_, _≤_};
 ghost use lib.Dec.{eqb};
 ghost use Rattle.tree.specs.Bytes.{pick, kindAt, roleAt, sizeAt};
-ghost use Rattle.tree.specs.Forest.{Part};
-ghost use Rattle.tree.specs.Find.{kidOf};
-ghost use Rattle.rules.specs.Order.{_⨟_, skip, branch, loop, scope};
-ghost use Rattle.names.specs.State.{Fits};
-ghost use Rattle.names.specs.Walk.{Goes, Turns, Node, wantOf, wantedOf, namesOf, visitOf, downOf, nodeOf, bindOf, useOf, bindNode, useNode, clausesOf, clauseOf, overOf, boundOf, callsFail, callOf, failOf, namedOf};
-use crate::scope::Abort;
-use crate::scope::Scope;
+ghost use Rattle.tree.specs.Forest.{spotAt};
+ghost use Rattle.tree.specs.code.Part.{Part};
+ghost use Rattle.tree.specs.code.Find.{kidOf};
+ghost use Rattle.rules.specs.Order.{_⨟_, skip, use-of, set-of, branch, scope};
+ghost use Rattle.scope.specs.State.{sortOf, Fits};
+ghost use Rattle.names.specs.Walk.{Goes, Turns, Node, wantOf, wantedOf, namesOf, visitOf, downOf, nodeOf, bindOf, useOf, nameNode, clausesOf, clauseOf, overOf, boundOf};
+use fail::is_fail;
+use scope::Abort;
+use scope::Scope;
 use tree::bytes::kind_at;
 use tree::bytes::role_at;
 use tree::bytes::size_at;
-use tree::bytes::value_at;
 use tree::children::child_of;
 
 // A child is visited for whom the role r is asked for; 9: every one.
@@ -78,27 +78,27 @@ fn one(t: &[u8], c: usize, d: usize, f: usize, w: &mut [u16], s: Scope) -> Scope
 {
     let k = kind_at(t, c);
     if 14 <= k {
-        return expression(t, c, k, d, f, w, s);
+        return expr(t, c, k, d, f, w, s);
     }
     if 8 <= k {
-        return compound(t, c, k, d, f, w, s);
+        return block(t, c, k, d, f, w, s);
     }
-    simple(t, c, k, d, f, w, s)
+    stmt(t, c, k, d, f, w, s)
 }
 
 // Statements with no statement below: break, continue and pass too.
-fn simple(t: &[u8], c: usize, k: usize, d: usize, f: usize, w: &mut [u16], s: Scope) -> Scope
+fn stmt(t: &[u8], c: usize, k: usize, d: usize, f: usize, w: &mut [u16], s: Scope) -> Scope
     requires { ⌜ (k ≡ kindAt (now t) c) × (k < 8) × Node (now t) c d × Fits (now w) s ⌝ }
     ensures { λ z. ⌜ Goes (now (t .entry)) d (nodeOf (now (t .entry)) f c) (now (w .entry)) s (now (w .exit)) z ⌝ }
 {
     if k == 4 {
-        return returned(t, c, d, f, w, s);
+        return ret(t, c, d, f, w, s);
     }
     if k == 5 {
-        return stated(t, c, d, f, w, s);
+        return eval(t, c, d, f, w, s);
     }
     if k == 6 {
-        return assign(t, c, d, f, w, s);
+        return gets(t, c, d, f, w, s);
     }
     if k == 7 {
         return modify(t, c, d, f, w, s);
@@ -112,7 +112,7 @@ fn simple(t: &[u8], c: usize, k: usize, d: usize, f: usize, w: &mut [u16], s: Sc
     down(t, c, 9, d, f, w, s)
 }
 
-fn returned(t: &[u8], c: usize, d: usize, f: usize, w: &mut [u16], s: Scope) -> Scope
+fn ret(t: &[u8], c: usize, d: usize, f: usize, w: &mut [u16], s: Scope) -> Scope
     requires { ⌜ (kindAt (now t) c ≡ 4) × Node (now t) c d × Fits (now w) s ⌝ }
     ensures { λ z. ⌜ Goes (now (t .entry)) d (nodeOf (now (t .entry)) f c) (now (w .entry)) s (now (w .exit)) z ⌝ }
 {
@@ -121,24 +121,25 @@ fn returned(t: &[u8], c: usize, d: usize, f: usize, w: &mut [u16], s: Scope) -> 
 }
 
 // A statement that is an expression ends the function if it calls fail.
-fn stated(t: &[u8], c: usize, d: usize, f: usize, w: &mut [u16], s: Scope) -> Scope
+fn eval(t: &[u8], c: usize, d: usize, f: usize, w: &mut [u16], s: Scope) -> Scope
     requires { ⌜ (kindAt (now t) c ≡ 5) × Node (now t) c d × Fits (now w) s ⌝ }
     ensures { λ z. ⌜ Goes (now (t .entry)) d (nodeOf (now (t .entry)) f c) (now (w .entry)) s (now (w .exit)) z ⌝ }
 {
     let a = down(t, c, 4, d, f, w, s);
-    if fail_called(t, c, f) {
+    let e = c + size_at(t, c);
+    if is_fail(t, f, c + 1, e) {
         return a.stop(Abort::Function);
     }
     a
 }
 
-fn assign(t: &[u8], c: usize, d: usize, f: usize, w: &mut [u16], s: Scope) -> Scope
+fn gets(t: &[u8], c: usize, d: usize, f: usize, w: &mut [u16], s: Scope) -> Scope
     requires { ⌜ (kindAt (now t) c ≡ 6) × Node (now t) c d × Fits (now w) s ⌝ }
     ensures { λ z. ⌜ Goes (now (t .entry)) d (nodeOf (now (t .entry)) f c) (now (w .entry)) s (now (w .exit)) z ⌝ }
 {
     let a = down(t, c, 3, d, f, w, s);
     let b = down(t, c, 4, d, f, w, a);
-    target(t, c, d, f, w, b)
+    assign(t, c, d, f, w, b)
 }
 
 fn modify(t: &[u8], c: usize, d: usize, f: usize, w: &mut [u16], s: Scope) -> Scope
@@ -147,22 +148,22 @@ fn modify(t: &[u8], c: usize, d: usize, f: usize, w: &mut [u16], s: Scope) -> Sc
 {
     let a = down(t, c, 4, d, f, w, s);
     let b = down(t, c, 5, d, f, w, a);
-    let x = take(t, c, 5, w, b);
-    target(t, c, d, f, w, x)
+    let x = bind(t, c, 5, true, w, b);
+    assign(t, c, d, f, w, x)
 }
 
 // The target of node c: its expressions, then its names.
-fn target(t: &[u8], c: usize, d: usize, f: usize, w: &mut [u16], s: Scope) -> Scope
+fn assign(t: &[u8], c: usize, d: usize, f: usize, w: &mut [u16], s: Scope) -> Scope
     requires { ⌜ Node (now t) c d × Fits (now w) s ⌝ }
     ensures { λ z. ⌜ Goes (now (t .entry)) d (downOf (now (t .entry)) f (wantOf 5) c ⨟ bindOf (now (t .entry)) 5 c) (now (w .entry)) s (now (w .exit)) z ⌝ }
 {
     let mut a = down(t, c, 5, d, f, w, s);
-    a = bind(t, c, 5, w, a);
+    a = bind(t, c, 5, false, w, a);
     a
 }
 
 // Lists, if, if-else, for, def, load.
-fn compound(t: &[u8], c: usize, k: usize, d: usize, f: usize, w: &mut [u16], s: Scope) -> Scope
+fn block(t: &[u8], c: usize, k: usize, d: usize, f: usize, w: &mut [u16], s: Scope) -> Scope
     requires { ⌜ (k ≡ kindAt (now t) c) × (8 ≤ k) × (k < 14) × (d ≤ c) × Node (now t) c d × Fits (now w) s ⌝ }
     ensures { λ z. ⌜ Goes (now (t .entry)) d (nodeOf (now (t .entry)) f c) (now (w .entry)) s (now (w .exit)) z ⌝ }
 {
@@ -173,16 +174,16 @@ fn compound(t: &[u8], c: usize, k: usize, d: usize, f: usize, w: &mut [u16], s: 
         return def(t, c, d, f, w, s);
     }
     if k == 13 {
-        return bind(t, c, 0, w, s);
+        return bind(t, c, 0, false, w, s);
     }
     if k == 11 {
-        return rounds(t, c, d, f, w, s);
+        return loops(t, c, d, f, w, s);
     }
-    conditional(t, c, k, d, f, w, s)
+    cond(t, c, k, d, f, w, s)
 }
 
 // An if, an if-else: what is visited first has role 4.
-fn conditional(t: &[u8], c: usize, k: usize, d: usize, f: usize, w: &mut [u16], s: Scope) -> Scope
+fn cond(t: &[u8], c: usize, k: usize, d: usize, f: usize, w: &mut [u16], s: Scope) -> Scope
     requires { ⌜ (k ≡ kindAt (now t) c) × (9 ≤ k) × (k < 11) × Node (now t) c d × Fits (now w) s ⌝ }
     ensures { λ z. ⌜ Goes (now (t .entry)) d (nodeOf (now (t .entry)) f c) (now (w .entry)) s (now (w .exit)) z ⌝ }
 {
@@ -213,26 +214,26 @@ fn branch(t: &[u8], c: usize, d: usize, f: usize, w: &mut [u16], s: Scope) -> Sc
     b.join(a)
 }
 
-// A for: what it goes over, then its rounds, two, or one from the sixth on. Not in conditional, whose sides would add to a for's stack.
-fn rounds(t: &[u8], c: usize, d: usize, f: usize, w: &mut [u16], s: Scope) -> Scope
+// A for: what it goes over, then its rounds, two, or one from the sixth on. Not in cond, whose sides would add to a for's stack.
+fn loops(t: &[u8], c: usize, d: usize, f: usize, w: &mut [u16], s: Scope) -> Scope
     requires { ⌜ (kindAt (now t) c ≡ 11) × (d ≤ c) × Node (now t) c d × Fits (now w) s ⌝ }
     ensures { λ z. ⌜ Goes (now (t .entry)) d (nodeOf (now (t .entry)) f c) (now (w .entry)) s (now (w .exit)) z ⌝ }
 {
     let n = d + 1;
     let mut a = down(t, c, 4, d, f, w, s);
-    a = round(t, c, n, f, w, a);
+    a = turn(t, c, n, f, w, a);
     if 5 < n {
         return a;
     }
-    a = round(t, c, n, f, w, a);
+    a = turn(t, c, n, f, w, a);
     a
 }
 
-fn round(t: &[u8], c: usize, d: usize, f: usize, w: &mut [u16], s: Scope) -> Scope
+fn turn(t: &[u8], c: usize, d: usize, f: usize, w: &mut [u16], s: Scope) -> Scope
     requires { ⌜ Node (now t) c d × Fits (now w) s ⌝ }
     ensures { λ z. ⌜ Turns (now (t .entry)) d (downOf (now (t .entry)) f (wantOf 5) c ⨟ bindOf (now (t .entry)) 5 c ⨟ downOf (now (t .entry)) f (wantOf 1) c) (now (w .entry)) s (now (w .exit)) z ⌝ }
 {
-    let x = target(t, c, d, f, w, s);
+    let x = assign(t, c, d, f, w, s);
     let a = down(t, c, 1, d, f, w, x);
     let b = a.back(s);
     let j = b.join(a);
@@ -245,16 +246,16 @@ fn def(t: &[u8], c: usize, d: usize, f: usize, w: &mut [u16], s: Scope) -> Scope
 {
     let a = down(t, c, 0, d, f, w, s);
     let b = down(t, c, 3, d, f, w, a);
-    let n = bind(t, c, 6, w, b);
-    function(t, c, d, f, w, n)
+    let n = bind(t, c, 6, false, w, b);
+    body(t, c, d, f, w, n)
 }
 
 // The scope of a def or a lambda.
-fn function(t: &[u8], c: usize, d: usize, f: usize, w: &mut [u16], s: Scope) -> Scope
+fn body(t: &[u8], c: usize, d: usize, f: usize, w: &mut [u16], s: Scope) -> Scope
     requires { ⌜ Node (now t) c d × Fits (now w) s ⌝ }
     ensures { λ z. ⌜ Goes (now (t .entry)) d (scope (bindOf (now (t .entry)) 0 c ⨟ downOf (now (t .entry)) f (wantOf 1) c)) (now (w .entry)) s (now (w .exit)) z ⌝ }
 {
-    let a = bind(t, c, 0, w, s.enter());
+    let a = bind(t, c, 0, false, w, s.enter());
     let b = down(t, c, 1, d, f, w, a);
     b.leave(t, w, s)
 }
@@ -264,10 +265,10 @@ fn lambda(t: &[u8], c: usize, d: usize, f: usize, w: &mut [u16], s: Scope) -> Sc
     ensures { λ z. ⌜ Goes (now (t .entry)) d (nodeOf (now (t .entry)) f c) (now (w .entry)) s (now (w .exit)) z ⌝ }
 {
     let a = down(t, c, 0, d, f, w, s);
-    function(t, c, d, f, w, a)
+    body(t, c, d, f, w, a)
 }
 
-fn expression(t: &[u8], c: usize, k: usize, d: usize, f: usize, w: &mut [u16], s: Scope) -> Scope
+fn expr(t: &[u8], c: usize, k: usize, d: usize, f: usize, w: &mut [u16], s: Scope) -> Scope
     requires { ⌜ (k ≡ kindAt (now t) c) × (14 ≤ k) × Node (now t) c d × Fits (now w) s ⌝ }
     ensures { λ z. ⌜ Goes (now (t .entry)) d (nodeOf (now (t .entry)) f c) (now (w .entry)) s (now (w .exit)) z ⌝ }
 {
@@ -278,22 +279,22 @@ fn expression(t: &[u8], c: usize, k: usize, d: usize, f: usize, w: &mut [u16], s
         return lambda(t, c, d, f, w, s);
     }
     if k == 25 {
-        return comprehension(t, c, d, f, w, s);
+        return comp(t, c, d, f, w, s);
     }
     if k == 26 {
-        return comprehension(t, c, d, f, w, s);
+        return comp(t, c, d, f, w, s);
     }
     down(t, c, 9, d, f, w, s)
 }
 
-fn comprehension(t: &[u8], c: usize, d: usize, f: usize, w: &mut [u16], s: Scope) -> Scope
+fn comp(t: &[u8], c: usize, d: usize, f: usize, w: &mut [u16], s: Scope) -> Scope
     requires { ⌜ Node (now t) c d × Fits (now w) s ⌝ }
     ensures { λ z. ⌜ Goes (now (t .entry)) d (overOf (now (t .entry)) f c ⨟ scope (boundOf (now (t .entry)) f c ⨟ downOf (now (t .entry)) f (wantOf 8) c ⨟ downOf (now (t .entry)) f (wantOf 4) c)) (now (w .entry)) s (now (w .exit)) z ⌝ }
 {
     let e = c + size_at(t, c);
     let x = child_of(t, 0, c + 1, e);
     let a = over(t, c, x, d, f, w, s);
-    let mut b = inside(t, c, x, d, f, w, a.enter());
+    let mut b = rest(t, c, x, d, f, w, a.enter());
     b = b.leave(t, w, a);
     b
 }
@@ -311,7 +312,7 @@ fn over(t: &[u8], c: usize, x: usize, d: usize, f: usize, w: &mut [u16], s: Scop
 }
 
 // What of the comprehension c comes after its first over, in clause x.
-fn inside(t: &[u8], c: usize, x: usize, d: usize, f: usize, w: &mut [u16], s: Scope) -> Scope
+fn rest(t: &[u8], c: usize, x: usize, d: usize, f: usize, w: &mut [u16], s: Scope) -> Scope
     requires { ⌜ (x ≡ kidOf (now t) 0 c) × Node (now t) c d × Fits (now w) s ⌝ }
     ensures { λ z. ⌜ Goes (now (t .entry)) d (boundOf (now (t .entry)) f c ⨟ downOf (now (t .entry)) f (wantOf 8) c ⨟ downOf (now (t .entry)) f (wantOf 4) c) (now (w .entry)) s (now (w .exit)) z ⌝ }
 {
@@ -327,14 +328,14 @@ fn bound(t: &[u8], c: usize, x: usize, d: usize, f: usize, w: &mut [u16], s: Sco
 {
     let e = c + size_at(t, c);
     if x < e {
-        let a = target(t, x, d, f, w, s);
-        return clauses(t, c, x, d, f, w, a);
+        let a = assign(t, x, d, f, w, s);
+        return later(t, c, x, d, f, w, a);
     }
     s
 }
 
 // The clauses of the comprehension c after the first, x.
-fn clauses(t: &[u8], c: usize, x: usize, d: usize, f: usize, w: &mut [u16], s: Scope) -> Scope
+fn later(t: &[u8], c: usize, x: usize, d: usize, f: usize, w: &mut [u16], s: Scope) -> Scope
     requires { ⌜ (c < x) × (x < c + sizeAt (now t) c) × Node (now t) c d × Fits (now w) s ⌝ }
     ensures { λ z. ⌜ Goes (now (t .entry)) d (clausesOf (now (t .entry)) f (x + sizeAt (now (t .entry)) x) (c + sizeAt (now (t .entry)) c)) (now (w .entry)) s (now (w .exit)) z ⌝ }
 {
@@ -356,71 +357,50 @@ fn clause(t: &[u8], i: usize, d: usize, f: usize, w: &mut [u16], s: Scope) -> Sc
         return s;
     }
     let a = down(t, i, 4, d, f, w, s);
-    target(t, i, d, f, w, a)
+    assign(t, i, d, f, w, a)
 }
 
-// The names that the children of role r of node c bind are set.
-fn bind(t: &[u8], c: usize, r: usize, w: &mut [u16], s: Scope) -> Scope
+// The names that the children of role r of node c bind: used where `uses`, else set.
+fn bind(t: &[u8], c: usize, r: usize, uses: bool, w: &mut [u16], s: Scope) -> Scope
     requires { ⌜ Node (now t) c 0 × Fits (now w) s ⌝ }
-    ensures { λ z. ⌜ ((d : ℕ) → Goes (now (t .entry)) d (bindOf (now (t .entry)) r c) (now (w .entry)) s (now (w .exit)) z) ⌝ }
+    ensures { λ z. ⌜ ((d : ℕ) → Goes (now (t .entry)) d (pick uses (useOf (now (t .entry)) r c) (bindOf (now (t .entry)) r c)) (now (w .entry)) s (now (w .exit)) z) ⌝ }
 {
     let e = c + size_at(t, c);
     let mut z = s;
     let mut i = c + 1;
     while i < e {
-        z = bind_one(t, i, r, w, z);
+        z = bind_one(t, i, r, uses, w, z);
         i += size_at(t, i);
     }
     z
 }
 
-fn bind_one(t: &[u8], i: usize, r: usize, w: &mut [u16], s: Scope) -> Scope
+fn bind_one(t: &[u8], i: usize, r: usize, uses: bool, w: &mut [u16], s: Scope) -> Scope
     requires { ⌜ Node (now t) i 0 × Fits (now w) s ⌝ }
-    ensures { λ z. ⌜ ((d : ℕ) → Goes (now (t .entry)) d (pick (eqb r (roleAt (now (t .entry)) i)) (bindNode (now (t .entry)) i) skip) (now (w .entry)) s (now (w .exit)) z) ⌝ }
+    ensures { λ z. ⌜ ((d : ℕ) → Goes (now (t .entry)) d (pick (eqb r (roleAt (now (t .entry)) i)) (nameNode uses (now (t .entry)) i) skip) (now (w .entry)) s (now (w .exit)) z) ⌝ }
 {
     if role_at(t, i) != r {
         return s;
     }
     let k = kind_at(t, i);
     if k == 41 {
-        return bind(t, i, 0, w, s);
+        return bind(t, i, 0, uses, w, s);
     }
     if binds_name(k) {
-        return s.set(t, w, i);
+        return ident(t, i, uses, w, s);
     }
     s
 }
 
-// The same names as uses.
-fn take(t: &[u8], c: usize, r: usize, w: &mut [u16], s: Scope) -> Scope
-    requires { ⌜ Node (now t) c 0 × Fits (now w) s ⌝ }
-    ensures { λ z. ⌜ ((d : ℕ) → Goes (now (t .entry)) d (useOf (now (t .entry)) r c) (now (w .entry)) s (now (w .exit)) z) ⌝ }
-{
-    let e = c + size_at(t, c);
-    let mut z = s;
-    let mut i = c + 1;
-    while i < e {
-        z = take_one(t, i, r, w, z);
-        i += size_at(t, i);
-    }
-    z
-}
-
-fn take_one(t: &[u8], i: usize, r: usize, w: &mut [u16], s: Scope) -> Scope
+// The name of node i: used where `uses`, else set.
+fn ident(t: &[u8], i: usize, uses: bool, w: &mut [u16], s: Scope) -> Scope
     requires { ⌜ Node (now t) i 0 × Fits (now w) s ⌝ }
-    ensures { λ z. ⌜ ((d : ℕ) → Goes (now (t .entry)) d (pick (eqb r (roleAt (now (t .entry)) i)) (useNode (now (t .entry)) i) skip) (now (w .entry)) s (now (w .exit)) z) ⌝ }
+    ensures { λ z. ⌜ ((d : ℕ) → Goes (now (t .entry)) d (pick uses (use-of (spotAt (now (t .entry)) i)) (set-of (sortOf (kindAt (now (t .entry)) i)) (spotAt (now (t .entry)) i))) (now (w .entry)) s (now (w .exit)) z) ⌝ }
 {
-    if role_at(t, i) != r {
-        return s;
-    }
-    let k = kind_at(t, i);
-    if k == 41 {
-        return take(t, i, 0, w, s);
-    }
-    if binds_name(k) {
+    if uses {
         return s.used(t, w, i);
     }
-    s
+    s.set(t, w, i)
 }
 
 fn binds_name(k: usize) -> bool
@@ -433,61 +413,4 @@ fn binds_name(k: usize) -> bool
         return true;
     }
     k == 47
-}
-
-// An expression of statement c is a call of the identifier fail.
-fn fail_called(t: &[u8], c: usize, f: usize) -> bool
-    requires { ⌜ Node (now t) c 0 ⌝ }
-    ensures { λ b. ⌜ b ≡ failOf (now (t .entry)) f c ⌝ }
-{
-    let e = c + size_at(t, c);
-    let mut i = c + 1;
-    while i < e {
-        if calls_fail(t, i, f) {
-            return true;
-        }
-        i += size_at(t, i);
-    }
-    false
-}
-
-fn calls_fail(t: &[u8], i: usize, f: usize) -> bool
-    requires { ⌜ Node (now t) i 0 ⌝ }
-    ensures { λ b. ⌜ b ≡ callsFail (now (t .entry)) f i ⌝ }
-{
-    if role_at(t, i) != 4 {
-        return false;
-    }
-    if kind_at(t, i) != 23 {
-        return false;
-    }
-    fail_named(t, i, f)
-}
-
-// The function of the call c is the identifier fail.
-fn fail_named(t: &[u8], c: usize, f: usize) -> bool
-    requires { ⌜ Node (now t) c 0 ⌝ }
-    ensures { λ b. ⌜ b ≡ callOf (now (t .entry)) f c ⌝ }
-{
-    let e = c + size_at(t, c);
-    let mut i = c + 1;
-    while i < e {
-        if names_fail(t, i, f) {
-            return true;
-        }
-        i += size_at(t, i);
-    }
-    false
-}
-
-fn names_fail(t: &[u8], i: usize, f: usize) -> bool
-    ensures { λ b. ⌜ b ≡ namedOf (now (t .entry)) f i ⌝ }
-{
-    if role_at(t, i) != 7 {
-        return false;
-    }
-    if kind_at(t, i) != 20 {
-        return false;
-    }
-    value_at(t, i) == f
 }

@@ -3,12 +3,20 @@
 ghost use Prim.Native.Nat.{_+_, _≤_};
 ghost use mathlib.Core.Path.{_≡_};
 ghost use lib.ListN.{length};
+ghost use Rattle.rules.specs.Record.{width};
 use libc::STDERR_FILENO;
 use libc::STDIN_FILENO;
 use libc::STDOUT_FILENO;
-use rules::Answer;
 use rules::Outcome;
+use rules::WIDTH;
+use rules::WORK_WORDS;
 use tree::Mode;
+
+// The words of 2,048 records, for which a listing has room.
+const ROOM: usize = WIDTH * 2048;
+
+// The bytes of a record's line: each word has at most ten digits and a byte after it.
+const LINE: usize = WIDTH * 11;
 
 fn text(s: &[u8]) {
     io::write_all(STDOUT_FILENO, s);
@@ -20,10 +28,10 @@ fn number(n: usize) {
 
 // What stands after word k of a record.
 fn after(k: usize) -> u8 {
-    if k == 7 {
-        return b'\n';
+    if k < WIDTH - 1 {
+        return b' ';
     }
-    b' '
+    b'\n'
 }
 
 // Copies s into the line from `at` on, and answers the place after it.
@@ -59,14 +67,14 @@ fn put_word(line: &mut [u8], at: usize, word: u32, k: usize) -> usize
     end + 1
 }
 
-// A record on a line, in one write: eight words, each of at most ten digits and a byte after it.
+// A record on a line, in one write.
 fn record(out: &[u32], first: usize)
-    requires { ⌜ first + 8 ≤ length (now out) ⌝ }
+    requires { ⌜ first + width ≤ length (now out) ⌝ }
 {
-    let mut line = [0u8; 88];
+    let mut line = [0u8; LINE];
     let mut at = 0;
     let mut k = 0;
-    while k < 8 {
+    while k < WIDTH {
         at = put_word(&mut line, at, out[first + k], k);
         k += 1;
     }
@@ -77,10 +85,10 @@ fn record(out: &[u32], first: usize)
 fn records(out: &[u32], n: usize) {
     let mut r = 0;
     while r < n {
-        if out.len() / 8 <= r {
+        if out.len() / WIDTH <= r {
             return;
         }
-        record(out, 8 * r);
+        record(out, WIDTH * r);
         r += 1;
     }
 }
@@ -103,8 +111,8 @@ fn refused(why: usize, place: usize) {
 
 // The listing of a file, with room for 2,048 records.
 pub fn list(t: &[u8], mode: Mode) {
-    let mut work = [0u16; 32768];
-    let mut out = [0u32; 16384];
+    let mut work = [0u16; WORK_WORDS];
+    let mut out = [0u32; ROOM];
     let a = lint::lint(t, mode, &mut work, &mut out);
     let o = a.outcome;
     match o {
@@ -144,8 +152,8 @@ pub fn list_input(mode: Mode) {
 
 // The log of a file in the lent room, with room for 2,048 records.
 fn log_in(log: &mut [u8], t: &[u8], mode: Mode) {
-    let mut work = [0u16; 32768];
-    let mut out = [0u32; 16384];
+    let mut work = [0u16; WORK_WORDS];
+    let mut out = [0u32; ROOM];
     let a = sarif::sarif(t, mode, &mut work, &mut out, log);
     let o = a.outcome;
     match o {

@@ -9,7 +9,7 @@ use lib.ListN.{length, length-append}
 use Rattle.tree.specs.Forest.{Spot}
 use Rattle.rules.specs.Order.{Sort, Cmd, skip, _⨟_, use-of, set-of, stop, branch, loop, scope}
 use Rattle.rules.specs.Names.{Abort, abort-of, unloop, same, Setting, keep, Found, nowhere, surely, perhaps}
-use Rattle.rules.specs.Marks.{put, inside, add, adds, same-setting, Level, Absent, Maybe, Definitely, Room, House, empty-room, settings-of, level-at, set-room, unbinds-room, stop-room, Looked, look-step, look-out, use-away, use-level, notes, back-room, join-room, branch-house, same-house, round-house, rounds-house, passed-room, sets-name, enter-house, leave-house, tour, mid, settings-in, cant-in, unbound-in, start, Every-round, Every-rounds, Every, sum, total}
+use Rattle.rules.specs.code.Marks.{put, inside, add, adds, same-setting, Level, Absent, Maybe, Definitely, Chamber, House, empty-room, settings-of, level-at, set-room, unbinds-room, stop-room, Looked, look-step, look-out, use-away, use-level, notes, back-room, join-room, branch-house, same-house, round-house, rounds-house, passed-room, sets-name, enter-house, leave-house, tour, mid, settings-in, cant-in, unbound-in, start, Every-round, Every-rounds, Every, sum, total}
 use Rattle.rules.proofs.Bools.{or-left, or-right, or-case, nor-left, nor-right, or-other, test, never}
 use Rattle.rules.proofs.Once.{once, inside-from}
 use Rattle.rules.proofs.Lean.{setting-sound, setting-exact}
@@ -114,23 +114,23 @@ module _ {K : Type 0} (eq : K → K → Bool) where
         omega arith
 
 -- what a step keeps of the scopes further out: all three lists
-pub record Same-room (a b : Room) : Type 0 where
+pub record Same-room (a b : Chamber) : Type 0 where
   pub cant : b .cant ≡ a .cant
   pub unbound : b .unbound ≡ a .unbound
   pub settings : settings-of (b .entries) ≡ settings-of (a .entries)
 
-pub data Kept : List Room → List Room → Type 0 where
+pub data Kept : List Chamber → List Chamber → Type 0 where
   kept-nil : Kept [] []
-  kept-cons : {a b : Room} {ps qs : List Room} → Same-room a b → Kept ps qs → Kept (a ∷ ps) (b ∷ qs)
+  kept-cons : {a b : Chamber} {ps qs : List Chamber} → Same-room a b → Kept ps qs → Kept (a ∷ ps) (b ∷ qs)
 
-room-refl : (a : Room) → Same-room a a
+room-refl : (a : Chamber) → Same-room a a
 room-refl a = record { cant = refl; unbound = refl; settings = refl }
 
-kept-refl : (rs : List Room) → Kept rs rs
+kept-refl : (rs : List Chamber) → Kept rs rs
 kept-refl [] = kept-nil
 kept-refl (r ∷ rs) = kept-cons (room-refl r) (kept-refl rs)
 
-kept-trans : {xs ys zs : List Room} → Kept xs ys → Kept ys zs → Kept xs zs
+kept-trans : {xs ys zs : List Chamber} → Kept xs ys → Kept ys zs → Kept xs zs
 kept-trans kept-nil kept-nil = kept-nil
 kept-trans (kept-cons p ps) (kept-cons q qs) = kept-cons (record {
   cant = q .cant ∙ p .cant;
@@ -138,7 +138,7 @@ kept-trans (kept-cons p ps) (kept-cons q qs) = kept-cons (record {
   settings = q .settings ∙ p .settings;
 }) (kept-trans ps qs)
 
-look-keeps-step : (x : ℕ) (r : Room) (rs : List Room) (l : Looked) → Kept rs (l .rooms) → (v : Level)
+look-keeps-step : (x : ℕ) (r : Chamber) (rs : List Chamber) (l : Looked) → Kept rs (l .rooms) → (v : Level)
     → Kept (r ∷ rs) (look-step x r rs l v .rooms)
 look-keeps-step x r rs l k Absent = kept-cons (room-refl r) k
 look-keeps-step x r rs l k Maybe = kept-cons (record { cant = refl; unbound = refl; settings = settings-marks x (r .entries) })
@@ -146,7 +146,7 @@ look-keeps-step x r rs l k Maybe = kept-cons (record { cant = refl; unbound = re
 look-keeps-step x r rs l k Definitely = kept-cons (record { cant = refl; unbound = refl; settings = settings-marks x (r .entries) })
     (kept-refl rs)
 
-look-keeps : (x : ℕ) (rs : List Room) → Kept rs (look-out x rs .rooms)
+look-keeps : (x : ℕ) (rs : List Chamber) → Kept rs (look-out x rs .rooms)
 look-keeps x [] = kept-nil
 look-keeps x (r ∷ rs) = look-keeps-step x r rs (look-out x rs) (look-keeps x rs) (level-at x (r .entries))
 
@@ -173,7 +173,7 @@ rounds-keeps : (b : Bool) (f : House → House) → Keeps f → Keeps (rounds-ho
 rounds-keeps true f kf m = kept-trans (round-keeps f kf m) (round-keeps f kf (round-house f m))
 rounds-keeps false f kf m = round-keeps f kf m
 
-leave-keeps : (u : ℕ → Bool) (r : Room) (rs ts : List Room) (m : House) → Kept (r ∷ rs) ts → Kept rs (leave-house u m ts .above)
+leave-keeps : (u : ℕ → Bool) (r : Chamber) (rs ts : List Chamber) (m : House) → Kept (r ∷ rs) ts → Kept rs (leave-house u m ts .above)
 leave-keeps u r rs ts m (kept-cons p ps) = ps
 
 module _ (u : ℕ → Bool) where
@@ -259,16 +259,16 @@ good-to : {K : Type 0} (eq : K → K → Bool) {k l m : List K} → m ≡ l → 
 good-to eq {k} {l} {m} e g = subst (Good eq k) (sym e) g
 
 -- what a list of each scope must do: which keys join it where
-pub record Laws {K : Type 0} (eq : K → K → Bool) (f : Spot → List K) (g : Sort → Spot → List K) (h : List K → List K) (list : Room
+pub record Laws {K : Type 0} (eq : K → K → Bool) (f : Spot → List K) (g : Sort → Spot → List K) (h : List K → List K) (list : Chamber
     → List K) : Type 0 where
   pub nil : list empty-room ≡ []
-  pub kept : (a b : Room) → Same-room a b → list b ≡ list a
-  pub stop-law : (a : Abort) (r : Room) → list (stop-room a r) ≡ list r
-  pub back : (r one : Room) → list (back-room r one) ≡ list one
-  pub join : (one two : Room) → list (join-room one two) ≡ list two
+  pub kept : (a b : Chamber) → Same-room a b → list b ≡ list a
+  pub stop-law : (a : Abort) (r : Chamber) → list (stop-room a r) ≡ list r
+  pub back : (r one : Chamber) → list (back-room r one) ≡ list one
+  pub join : (one two : Chamber) → list (join-room one two) ≡ list two
   pub used : (s : Spot) (m : House) (v : Level) → Step eq (f s) (list (m .here)) (list (use-level s m v .here))
-  pub set : (o : Sort) (s : Spot) (r : Room) → Step eq (g o s) (list r) (list (set-room o s r))
-  pub left : (k : List K) (c : Cmd) (inner r : Room) → Sub eq (h (gather f g h c)) k → (Sub eq (gather f g h c) k → Good eq k (list inner))
+  pub set : (o : Sort) (s : Spot) (r : Chamber) → Step eq (g o s) (list r) (list (set-room o s r))
+  pub left : (k : List K) (c : Cmd) (inner r : Chamber) → Sub eq (h (gather f g h c)) k → (Sub eq (gather f g h c) k → Good eq k (list inner))
       → Good eq k (list r)
       → Good eq k (list (unbinds-room (passed-room inner) r))
 
@@ -305,7 +305,7 @@ module _ {K : Type 0} (eq : K → K → Bool) (f : Spot → List K) (g : Sort �
   way d (scope c) = max (way d c) (most (scope c))
 
 module _ {K : Type 0} (eq : K → K → Bool) (sound : (a b : K) → T (eq a b) → a ≡ b) (exact : (a : K) → T (eq a a))
-    (f : Spot → List K) (g : Sort → Spot → List K) (h : List K → List K) (list : Room → List K) where
+    (f : Spot → List K) (g : Sort → Spot → List K) (h : List K → List K) (list : Chamber → List K) where
   good-step : (k ks l m : List K) → Sub eq ks k → Step eq ks l m → Good eq k l → Good eq k m
   good-step k ks l m s (stays e) q = good-to eq e q
   good-step k ks l m s (joins e) q = good-to eq e (record {
@@ -320,7 +320,7 @@ module _ {K : Type 0} (eq : K → K → Bool) (sound : (a b : K) → T (eq a b) 
   good-nil k = record { plain = tt; sub = λ a t. absurd t }
 
   module _ (w : Laws eq f g h list) where
-    sum-kept : {rs ts : List Room} → Kept rs ts → sum list ts ≡ sum list rs
+    sum-kept : {rs ts : List Chamber} → Kept rs ts → sum list ts ≡ sum list rs
     sum-kept kept-nil = refl
     sum-kept (kept-cons {a = a} {b = b} {ps = ps} {qs = qs} p q) = let e : length (list b) ≡ length (list a) = ap length (w .kept a b p) in
         let i : sum list qs ≡ sum list ps = sum-kept q in omega arith
@@ -340,7 +340,7 @@ module _ {K : Type 0} (eq : K → K → Bool) (sound : (a b : K) → T (eq a b) 
     rounds-good true k a p m i = round-good k a p (round-house a m) (round-good k a p m i)
     rounds-good false k a p m i = round-good k a p m i
 
-    leave-good : (u : ℕ → Bool) (k : List K) (c : Cmd) (m : House) (r : Room) (rs ts : List Room) → Kept (r ∷ rs) ts
+    leave-good : (u : ℕ → Bool) (k : List K) (c : Cmd) (m : House) (r : Chamber) (rs ts : List Chamber) → Kept (r ∷ rs) ts
         → Sub eq (gather f g h (scope c)) k
         → (Sub eq (gather f g h c) k → Good eq k (list (m .here))) → Good eq k (list r) → Good eq k (list (leave-house u m ts .here))
     leave-good u k c m r rs ts (kept-cons {b = b} p ps) s i j = w .left k c (m .here) b s i (good-to eq (w .kept r b p) j)
@@ -607,7 +607,7 @@ sub-keep p (s ∷ ss) a t = go (p s) t (sub-keep p ss a)
         (λ y. or-right (same a s) (inside same a ss) (f y)) v
     go false v f = or-right (same a s) (inside same a ss) (f v)
 
-leave-unbound : (k : List Spot) (inner r : Room) → Good same k (inner .unbound) → Good same k (r .unbound)
+leave-unbound : (k : List Spot) (inner r : Chamber) → Good same k (inner .unbound) → Good same k (r .unbound)
     → Good same k (adds same (passed-room inner) (r .unbound))
 leave-unbound k inner r i j = record {
   plain = plain-adds same same-sound same-exact (passed-room inner) (r .unbound) (j .plain);

@@ -8,13 +8,15 @@ use mathlib.Core.Logic.{_⊎_, inl, inr}
 use mathlib.Core.Option.{Option}
 use lib.Dec.{eqb, T, eqb→eq, eqb-refl, not-T}
 use Rattle.tree.specs.Forest.{Spot, Head, Forest, Forest.none as leaf, node}
-use Rattle.rules.specs.Order.{case, Form, forms, look, form-of, Cmd, skip, _⨟_, use-of, set-of, stop, branch, loop, scope, of-role, picked, part, takes, binds, body, def-body}
+use Rattle.rules.specs.Visit.{look}
+use Rattle.rules.specs.Order.{Form, forms, form-of, Cmd, skip, _⨟_, use-of, set-of, stop, branch, loop, scope, of-role, picked, part, takes, binds, body, def-body}
 use Rattle.rules.specs.Names.{names}
 use Rattle.rules.proofs.Flag.{sets-at, inner-sets, Holds, this, into, first, second, left-side, right-side, looped, module-flagged, def-flagged, good}
 use Rattle.rules.proofs.Bools.{or-cases, and-left, and-right, or-left, or-right}
 use Rattle.rules.proofs.Unique.{count, tally, me, only, Use, AnySet, Inner, shaped, apart, use-tally, sets-tally, sets-count, part-set, binds-no-inner, binds-no-use, tally-le, shaped-kids, shaped-rest}
 use Rattle.rules.specs.Runs.{Node, at, below, beside, Held, nobody, Reach, here, first as before, second as after, left, right, now, later, continued, own}
 use Rattle.rules.proofs.Spots.{same-exact}
+use Rattle.rules.proofs.Look.{case}
 
 -- a run's use is a use of the part
 reach-use : {s : Spot} {c : Cmd} {σ : Held} → Reach s c σ → Use s c

@@ -12,7 +12,7 @@ use Rattle.rules.specs.Record.{named-at}
 use Rattle.rules.specs.Order.{fail-name}
 use Rattle.rules.specs.Names.{same, Warning, names, told, names-list}
 use Rattle.rules.specs.Flow.{flow, none-name, flow-list}
-use Rattle.tree.specs.Shape.{valid}
+use Rattle.tree.specs.code.Shape.{valid}
 use Rattle.rules.specs.Premises.{Premises, names-apart}
 use Rattle.rules.specs.Letter.{Told, Demand3, Demand3-of}
 use Rattle.rules.proofs.Bools.{or-cases, and-left, and-right}

@@ -16,12 +16,13 @@ use Rattle.rules.proofs.Out.{names-few}
 use Rattle.rules.specs.Joined.{lint-list}
 use Rattle.rules.specs.Names.{names, told, names-list}
 use Rattle.rules.specs.Record.{Rec, Span, listed, plainly, named-at, with-value}
-use Rattle.rules.specs.Order.{Bind, one, several, nothing, bind-of, Form, rank, form-of, has, look, fail-name}
-use Rattle.rules.specs.Flow.{flow, loads-rows, loads-part, loads, effect, effect-rows, effect-part, effect-walk, last-of, tail-rows, tail-part, tail, redundant-part, redundant-walk, below-root, Reached, Course, in-list, each, only, on-through, after-stop, reach-rows, reach-part, reach, Return, everything, the-body, the-rest, returns-rows, returns-part, returns, place, ends, missing, missing-expression, bare-recs, check-for, check-rows, check, reason, returns-walk, none-name, flow-list}
-use Rattle.rules.specs.Incompatible.{each as each-node, kind-at, check-at, type-check, Deed, defines, repeats, deed-part, named, self-set, Top, assigning, modifying, defining, loading, holding, aside, tops, top-part, deeds, First, first-of, times, defined, may-repeat, judge, incompatible, once, type-name, five-types, spells-one, incompatible-list}
+use Rattle.rules.specs.Visit.{has, look, last-of, spot-at, each as each-node, kind-at}
+use Rattle.rules.specs.Order.{Bind, one, several, nothing, bind-of, fail-name}
+use Rattle.rules.specs.Flow.{flow, Loads, loads-part, loads, effect, effect-part, effect-walk, tail-part, tail, redundant-part, redundant-walk, below-root, Reached, Course, in-list, one-by-one, only, on-through, after-stop, reached-part, reached, Return, everything, the-body, the-rest, returns-part, returns, ends, missing, missing-expression, bare-recs, check-for, check, reason, returns-walk, none-name, flow-list}
+use Rattle.rules.specs.Incompatible.{check-at, type-check, Deed, defines, repeats, deed-part, defined-names, self-set, Top, assigning, modifying, defining, loading, holding, aside, tops, top-part, deeds, First, first-of, times, defined, may-repeat, repeated, incompatible, once, type-name, five-types, spells-one, incompatible-list}
 use Rattle.rules.specs.Dubious.{seen-with, keys, clash, against, doubles, dict-at, idle-at, dubious, unsaid, dubious-list}
-use Rattle.rules.specs.Marks.{nodes}
-use Rattle.rules.proofs.Look.{case-all, case-none, one-form}
+use Rattle.rules.specs.code.Marks.{nodes}
+use Rattle.rules.proofs.Look.{row, one-kind, look-none}
 use Rattle.rules.proofs.Bools.{both}
 
 listed-most : {A : Type 0} (b : Bool) (x y : List A) → length (listed b x y) ≤ length x + length y
@@ -46,14 +47,14 @@ split-step false a x y z h =
 returns-split : (k : Forest) → length (returns the-body k) + length (returns the-rest k) ≡ length (returns everything k)
 returns-split leaf = refl
 returns-split (node h k s) =
-    split-step (eqb 1 (h .role)) (returns-part (form-of h) h k (λ v. returns v k)) (returns the-body s) (returns the-rest s)
+    split-step (eqb 1 (h .role)) (returns-part (h .kind) h k (λ v. returns v k)) (returns the-body s) (returns the-rest s)
     (returns everything s) (returns-split s)
 
-part-most : (z : Form) (h : Head) (k : Forest) → length (returns-part z h k (λ v. returns v k)) ≤ suc (length (returns everything k))
+part-most : (z : ℕ) (h : Head) (k : Forest) → length (returns-part z h k (λ v. returns v k)) ≤ suc (length (returns everything k))
 part-most z h k =
     let p = returns-split k in
-    case-all (λ f. length (f h k (λ v. returns v k)) ≤ suc (length (returns everything k))) z returns-rows (λ h k down. down everything)
-    (omega arith, (omega arith, tt)) (omega arith)
+    let Q : List Return → Type 0 = λ l. length l ≤ suc (length (returns everything k)) in
+    row Q (eqb z 4) _ _ (omega arith) (row Q (eqb z 12) _ _ (omega arith) (omega arith))
 
 bare-most : (h : Head) (name why : Spot) (rs : List Return) → length (bare-recs h name why rs) ≤ length rs
 bare-most h name why [] = omega arith
@@ -65,34 +66,33 @@ module _ (is-fail is-none : ℕ → Bool) where
   check-most : (h : Head) (k : Forest) (o : Option Spot) → length (check-for is-fail is-none h k o) ≤ suc (length (returns the-body k))
   check-most h k none = omega arith
   check-most h k (some why) =
-      let p = listed-most (not (ends is-fail 1 k)) (missing h (place 6 k) why ∷ []) (bare-recs h (place 6 k) why (returns the-body k)) in
-      let q = bare-most h (place 6 k) why (returns the-body k) in omega arith
+      let p = listed-most (not (ends is-fail 1 k)) (missing h (spot-at 6 k) why ∷ []) (bare-recs h (spot-at 6 k) why (returns the-body k)) in
+      let q = bare-most h (spot-at 6 k) why (returns the-body k) in omega arith
 
   -- a def's records and the returns it keeps to itself
-  own-most : (z : Form) (h : Head) (k : Forest) → (z ≡ Form.def) ⊎ T (not (eqb (rank z) (rank Form.def)))
+  own-most : (z : ℕ) (h : Head) (k : Forest) → (z ≡ 12) ⊎ T (not (eqb z 12))
       → length (check is-fail is-none z h k) + length (returns-part z h k (λ v. returns v k)) ≤ suc (length (returns everything k))
   own-most z h k (inl e) =
       let p = check-most h k (reason is-none k) in
       let q = returns-split k in
-      subst (λ (y : Form). length (check is-fail is-none y h k) + length (returns-part y h k (λ v. returns v k)) ≤ suc
+      subst (λ (y : ℕ). length (check is-fail is-none y h k) + length (returns-part y h k (λ v. returns v k)) ≤ suc
       (length (returns everything k)))
       (sym e) (omega arith)
   own-most z h k (inr t) =
       let e : length (check is-fail is-none z h k) ≡ 0
-      = ap (λ (f : Head → Forest → List Rec). length (f h k))
-      (case-none z (check-rows is-fail is-none) (λ h k. []) (both (not (eqb (rank z) 9)) true t tt)) in
+      = ap length (look-none z ((12, check-for is-fail is-none h k (reason is-none k)) ∷ []) [] (both (not (eqb z 12)) true t tt)) in
       let p = part-most z h k in
       omega (arith, e, p)
 
   walk-most : (f : Forest) → length (returns-walk is-fail is-none f) + length (returns everything f) ≤ nodes f
   walk-most leaf = omega arith
   walk-most (node h k s) =
-      let a = own-most (form-of h) h k (one-form (form-of h) Form.def) in
+      let a = own-most (h .kind) h k (one-kind (h .kind) 12) in
       let b = walk-most k in
       let c = walk-most s in
-      let p = length-append (check is-fail is-none (form-of h) h k) (returns-walk is-fail is-none k ++ returns-walk is-fail is-none s) in
+      let p = length-append (check is-fail is-none (h .kind) h k) (returns-walk is-fail is-none k ++ returns-walk is-fail is-none s) in
       let q = length-append (returns-walk is-fail is-none k) (returns-walk is-fail is-none s) in
-      let r = length-append (returns-part (form-of h) h k (λ v. returns v k)) (returns everything s) in
+      let r = length-append (returns-part (h .kind) h k (λ v. returns v k)) (returns everything s) in
       omega arith
 
   pub returns-few : (f : Forest) → length (returns-walk is-fail is-none f) ≤ nodes f
@@ -122,20 +122,20 @@ after-most (node h k s) = omega arith
 
 module _ (is-fail : ℕ → Bool) where
   abbrev many : Course → Forest → ℕ
-  many m f = length (reach is-fail m f .recs)
+  many m f = length (reached is-fail m f .recs)
 
   record Reaches (f : Forest) : Type 0 where
     in-order : many in-list f ≤ nodes f
-    by-one : many each f ≤ nodes f
+    by-one : many one-by-one f ≤ nodes f
     single : (r : ℕ) → many (only r) f ≤ nodes f
     double : (r q : ℕ) → T (not (eqb r q)) → many (only r) f + many (only q) f ≤ nodes f
 
-  part-reach : (z : Form) (k : Forest) → Reaches k → length (reach-part is-fail z k (λ v. reach is-fail v k) .recs) ≤ nodes k
+  part-reach : (z : ℕ) (k : Forest) → Reaches k → length (reached-part is-fail z k (λ v. reached is-fail v k) .recs) ≤ nodes k
   part-reach z k c =
-      let p = length-append (reach is-fail (only 1) k .recs) (reach is-fail (only 2) k .recs) in
+      let p = length-append (reached is-fail (only 1) k .recs) (reached is-fail (only 2) k .recs) in
       let q = c .double 1 2 tt in
-      case-all (λ f. length (f k (λ v. reach is-fail v k) .recs) ≤ nodes k) z (reach-rows is-fail) (λ k down. on-through (down each))
-      (omega arith, (omega arith, (omega arith, (c .in-order, (omega arith, tt))))) (c .by-one)
+      let Q : Reached → Type 0 = λ r. length (r .recs) ≤ nodes k in
+      row Q (eqb z 1) _ _ (omega arith) (row Q (eqb z 2) _ _ (omega arith) (row Q (eqb z 4) _ _ (omega arith) (row Q (eqb z 5) _ _ (omega arith) (row Q (eqb z 8) _ _ (c .in-order) (row Q (eqb z 10) _ _ (omega arith) (c .by-one))))))
 
   list-step : (a b : Reached) (s : Forest) (n : ℕ) → length (a .recs) ≤ n → length (b .recs) ≤ nodes s → (x : Bool)
       → length ((elim x as (λ z. Reached) [
@@ -151,22 +151,22 @@ module _ (is-fail : ℕ → Bool) where
   reaches leaf = record { in-order = omega arith; by-one = omega arith; single = λ r. omega arith; double = λ r q n. omega arith }
   reaches (node h k s) =
       let c = reaches s in
-      let a = reach-part is-fail (form-of h) k (λ v. reach is-fail v k) in
-      let p : length (a .recs) ≤ nodes k = part-reach (form-of h) k (reaches k) in
+      let a = reached-part is-fail (h .kind) k (λ v. reached is-fail v k) in
+      let p : length (a .recs) ≤ nodes k = part-reach (h .kind) k (reaches k) in
       record {
-        in-order = (let e : many in-list (node h k s) ≤ nodes k + nodes s = list-step a (reach is-fail in-list s) s (nodes k) p
+        in-order = (let e : many in-list (node h k s) ≤ nodes k + nodes s = list-step a (reached is-fail in-list s) s (nodes k) p
             (c .in-order) (a .stops) in omega (arith, e));
-        by-one = (let e = length-append (a .recs) (reach is-fail each s .recs) in let d = c .by-one in omega (arith, e, d, p));
-        single = λ r. (let e : many (only r) (node h k s) ≤ nodes k + nodes s = one-step (eqb r (h .role)) a (reach is-fail (only r) s)
+        by-one = (let e = length-append (a .recs) (reached is-fail one-by-one s .recs) in let d = c .by-one in omega (arith, e, d, p));
+        single = λ r. (let e : many (only r) (node h k s) ≤ nodes k + nodes s = one-step (eqb r (h .role)) a (reached is-fail (only r) s)
             (nodes k) (nodes s) p (c .single r) in omega (arith, e));
         double = λ r q n. (let e : many (only r) (node h k s) + many (only q) (node h k s) ≤ nodes k + nodes s
-            = both-steps (eqb r (h .role)) (eqb q (h .role)) a (reach is-fail (only r) s) (reach is-fail (only q) s) (nodes k) (nodes s)
+            = both-steps (eqb r (h .role)) (eqb q (h .role)) a (reached is-fail (only r) s) (reached is-fail (only q) s) (nodes k) (nodes s)
             (apart r q (h .role) n) p (c .double r q n) in omega (arith, e));
       }
 
-  pub reach-few : (m : Course) (f : Forest) → length (reach is-fail m f .recs) ≤ nodes f
+  pub reach-few : (m : Course) (f : Forest) → length (reached is-fail m f .recs) ≤ nodes f
   reach-few in-list f = reaches f .in-order
-  reach-few each f = reaches f .by-one
+  reach-few one-by-one f = reaches f .by-one
   reach-few (only r) f = reaches f .single r
 
 -- ---- redundant
@@ -190,36 +190,34 @@ record Tails (f : Forest) : Type 0 where
   one : (l : Bool) (r : ℕ) → length (redundant-walk f) + length (tail l r f) ≤ nodes f
   two : (l : Bool) (r q : ℕ) → T (not (eqb r q)) → length (redundant-walk f) + (length (tail l r f) + length (tail l q f)) ≤ nodes f
 
-tail-most : (z : Form) (l : Bool) (h : Head) (k : Forest) → Tails k
+tail-most : (z : ℕ) (l : Bool) (h : Head) (k : Forest) → Tails k
     → length (redundant-walk k) + length (tail-part z l h k (λ v. tail l v k)) ≤ suc (nodes k)
 tail-most z l h k c =
     let n = c .one l 0 in
     let o = c .one l 1 in
     let p = c .two l 1 2 tt in
-    let q = listed-most (l && eqb 2 (h .kind)) (plainly 11 (h .spot) ∷ []) [] in
+    let q = listed-most l (plainly 11 (h .spot) ∷ []) [] in
     let r = listed-most (not l && not (has 4 k)) (plainly 10 (h .spot) ∷ []) [] in
     let e = length-append (tail l 1 k) (tail l 2 k) in
-    case-all (λ f. length (redundant-walk k) + length (f l h k (λ v. tail l v k)) ≤ suc (nodes k)) z tail-rows (λ loops h k down. [])
-    (omega arith, (omega arith, (omega arith, (omega arith, (omega arith, tt))))) (omega arith)
+    let Q : List Rec → Type 0 = λ x. length (redundant-walk k) + length x ≤ suc (nodes k) in
+    row Q (eqb z 2) _ _ (omega arith) (row Q (eqb z 4) _ _ (omega arith) (row Q (eqb z 8) _ _ (omega arith) (row Q (eqb z 9) _ _ (omega arith) (row Q (eqb z 10) _ _ (omega arith) (omega arith)))))
 
-abbrev Held : Form → Bool → Head → Forest → Type 0
+abbrev Held : ℕ → Bool → Head → Forest → Type 0
 Held z l h k = length (redundant-part z k) + (length (redundant-walk k) + length (tail-part z l h k (λ v. tail l v k))) ≤ suc (nodes k)
 
-held-for : (l : Bool) (h : Head) (k : Forest) → Tails k → Held Form.for l h k
+held-for : (l : Bool) (h : Head) (k : Forest) → Tails k → Held 11 l h k
 held-for l h k c = let p = c .one true 1 in omega arith
 
-held-def : (l : Bool) (h : Head) (k : Forest) → Tails k → Held Form.def l h k
+held-def : (l : Bool) (h : Head) (k : Forest) → Tails k → Held 12 l h k
 held-def l h k c = let p = c .one false 1 in omega arith
 
-held : (z : Form) (l : Bool) (h : Head) (k : Forest) → Tails k → (z ≡ Form.for) ⊎ T (not (eqb (rank z) (rank Form.for)))
-    → (z ≡ Form.def) ⊎ T (not (eqb (rank z) (rank Form.def))) → Held z l h k
-held z l h k c (inl e) y = subst (λ (x : Form). Held x l h k) (sym e) (held-for l h k c)
-held z l h k c (inr n) (inl e) = subst (λ (x : Form). Held x l h k) (sym e) (held-def l h k c)
+held : (z : ℕ) (l : Bool) (h : Head) (k : Forest) → Tails k → (z ≡ 11) ⊎ T (not (eqb z 11)) → (z ≡ 12) ⊎ T (not (eqb z 12)) → Held z l h k
+held z l h k c (inl e) y = subst (λ (x : ℕ). Held x l h k) (sym e) (held-for l h k c)
+held z l h k c (inr n) (inl e) = subst (λ (x : ℕ). Held x l h k) (sym e) (held-def l h k c)
 held z l h k c (inr n) (inr m) =
     let e : length (redundant-part z k) ≡ 0
-    = ap (λ (f : Forest → List Rec). length (f k))
-    (case-none z ((Form.for, tail true 1) ∷ (Form.def, tail false 1) ∷ []) (λ k. [])
-    (both (not (eqb (rank z) 8)) (not (eqb (rank z) 9) && true) n (both (not (eqb (rank z) 9)) true m tt))) in
+    = ap length (look-none z ((11, tail true 1 k) ∷ (12, tail false 1 k) ∷ []) []
+    (both (not (eqb z 11)) (not (eqb z 12) && true) n (both (not (eqb z 12)) true m tt))) in
     let p = tail-most z l h k c in
     omega (arith, e, p)
 
@@ -227,14 +225,14 @@ tails : (f : Forest) → Tails f
 tails leaf = record { one = λ l r. omega arith; two = λ l r q n. omega arith }
 tails (node h k s) =
     let c = tails s in
-    let z = form-of h in
+    let z = h .kind in
     let w = length-append (redundant-part z k) (redundant-walk k ++ redundant-walk s) in
     let x = length-append (redundant-walk k) (redundant-walk s) in
     record {
-      one = λ l r. (let a = held z l h k (tails k) (one-form z Form.for) (one-form z Form.def) in
+      one = λ l r. (let a = held z l h k (tails k) (one-kind z 11) (one-kind z 12) in
           let b = last-most (eqb r (h .role)) (has r s) (tail-part z l h k (λ v. tail l v k)) (tail l r s) in
           let d = c .one l r in omega (arith, a, b, d, w, x));
-      two = λ l r q n. (let a = held z l h k (tails k) (one-form z Form.for) (one-form z Form.def) in
+      two = λ l r q n. (let a = held z l h k (tails k) (one-kind z 11) (one-kind z 12) in
           let b = last-two (eqb r (h .role)) (eqb q (h .role)) (has r s) (has q s) (tail-part z l h k (λ v. tail l v k)) (tail l r s)
           (tail l q s) (apart r q (h .role) n) in
           let d = c .two l r q n in omega (arith, a, b, d, w, x));
@@ -246,19 +244,19 @@ redundant-few f = let p = tails f .one true 0 in omega arith
 -- ---- loads and effect
 
 module _ (is-string : ℕ → Bool) where
-  load-most : (z : Form) (may : Bool) (h : Head) (k : Forest) → ((m : Bool) → length (loads is-string m k .recs) ≤ nodes k)
+  load-most : (z : ℕ) (may : Bool) (h : Head) (k : Forest) → ((m : Bool) → length (loads is-string m k .recs) ≤ nodes k)
       → length (loads-part is-string z may h k (λ v. loads is-string v k) .recs) ≤ suc (nodes k)
   load-most z may h k c =
       let p = c may in
       let q = listed-most (not may) (plainly 12 (h .spot) ∷ []) [] in
-      case-all (λ f. length (f may h k (λ v. loads is-string v k) .recs) ≤ suc (nodes k)) z (loads-rows is-string)
-      (λ may h k down. record { may = false; recs = [] }) (omega arith, (omega arith, (omega arith, tt))) (omega arith)
+      let Q : Loads → Type 0 = λ l. length (l .recs) ≤ suc (nodes k) in
+      row Q (eqb z 5) _ _ (omega arith) (row Q (eqb z 8) _ _ (omega arith) (row Q (eqb z 13) _ _ (omega arith) (omega arith)))
 
   pub loads-few : (f : Forest) (may : Bool) → length (loads is-string may f .recs) ≤ nodes f
   loads-few leaf may = omega arith
   loads-few (node h k s) may =
-      let a = loads-part is-string (form-of h) may h k (λ v. loads is-string v k) in
-      let p = load-most (form-of h) may h k (loads-few k) in
+      let a = loads-part is-string (h .kind) may h k (λ v. loads is-string v k) in
+      let p = load-most (h .kind) may h k (loads-few k) in
       let q = loads-few s (a .may) in
       let e = length-append (a .recs) (loads is-string (a .may) s .recs) in
       omega (arith, p, q, e)
@@ -267,12 +265,11 @@ module _ (is-string : ℕ → Bool) where
   effect-few leaf = omega arith
   effect-few (node h k s) =
       let q = effect-few k in
-      let r = listed-most (not (effect is-string k)) (plainly 13 (place 4 k) ∷ []) [] in
-      let p : length (effect-part is-string (form-of h) k (effect-walk is-string k)) ≤ suc (nodes k)
-      = case-all (λ f. length (f k (effect-walk is-string k)) ≤ suc (nodes k)) (form-of h) (effect-rows is-string) (λ k down. down)
-      (omega arith, tt) (omega arith) in
+      let r = listed-most (not (effect is-string k)) (plainly 13 (spot-at 4 k) ∷ []) [] in
+      let p : length (effect-part is-string (h .kind) k (effect-walk is-string k)) ≤ suc (nodes k)
+      = row (λ l. length l ≤ suc (nodes k)) (eqb (h .kind) 5) _ _ (omega arith) (omega arith) in
       let d = effect-few s in
-      let e = length-append (effect-part is-string (form-of h) k (effect-walk is-string k)) (effect-walk is-string s) in
+      let e = length-append (effect-part is-string (h .kind) k (effect-walk is-string k)) (effect-walk is-string s) in
       omega (arith, p, d, e)
 
 below-few : (f : Forest) → nodes (below-root f) ≤ nodes f
@@ -283,7 +280,7 @@ below-few (node h k s) = omega arith
 pub flow-few : (is-fail is-none is-string : ℕ → Bool) (f : Forest) → length (flow is-fail is-none is-string f) ≤ 5 * nodes f
 flow-few is-fail is-none is-string f =
     let a = returns-walk is-fail is-none f in
-    let b = reach is-fail (only 0) f .recs in
+    let b = reached is-fail (only 0) f .recs in
     let c = redundant-walk (below-root f) in
     let d = loads is-string true f .recs in
     let e = effect-walk is-string f in
@@ -311,17 +308,17 @@ each-few g c (node h k s) =
     let d = length-append (each-node g k) (each-node g s) in
     omega arith
 
-bind-most : (z : Bind) (s : Spot) (k : Forest) → length (named 0 k) ≤ nodes k → length (deed-part z s (λ v. named v k)) ≤ suc (nodes k)
+bind-most : (z : Bind) (s : Spot) (k : Forest) → length (defined-names 0 k) ≤ nodes k → length (deed-part z s (λ v. defined-names v k)) ≤ suc (nodes k)
 bind-most (one o) s k c = omega arith
 bind-most several s k c = omega arith
 bind-most nothing s k c = omega arith
 
-named-few : (r : ℕ) (f : Forest) → length (named r f) ≤ nodes f
+named-few : (r : ℕ) (f : Forest) → length (defined-names r f) ≤ nodes f
 named-few r leaf = omega arith
 named-few r (node h k s) =
     let a = bind-most (bind-of h) (h .spot) k (named-few 0 k) in
     let b = named-few r s in
-    let p = listed-most (eqb r (h .role)) (deed-part (bind-of h) (h .spot) (λ v. named v k)) (named r s) in
+    let p = listed-most (eqb r (h .role)) (deed-part (bind-of h) (h .spot) (λ v. defined-names v k)) (defined-names r s) in
     omega arith
 
 cond-most : (b : Bool) (s : Spot) (l : List Deed) (n : ℕ) → length l ≤ n → length (cond b (repeats s ∷ []) l) ≤ suc n
@@ -329,7 +326,7 @@ cond-most true s l n h = omega arith
 cond-most false s l n h = omega arith
 
 top-most : (z : Top) (k : Forest) → length (deeds k) ≤ nodes k → length (top-part z k (deeds k)) ≤ suc (nodes k)
-top-most assigning k c = cond-most (self-set k) (place 5 k) (named 5 k) (nodes k) (named-few 5 k)
+top-most assigning k c = cond-most (self-set k) (spot-at 5 k) (defined-names 5 k) (nodes k) (named-few 5 k)
 top-most modifying k c = let p = named-few 5 k in omega arith
 top-most defining k c = let p = named-few 6 k in omega arith
 top-most loading k c = let p = named-few 0 k in omega arith
@@ -355,24 +352,24 @@ pick-most true x y n p q = omega arith
 pick-most false x y n p q = q
 
 module _ (free : ℕ → Bool) where
-  judge-few : (es : List Deed) (ds : List First) (xs : List ℕ) → length (judge free es ds xs) ≤ length es
+  judge-few : (es : List Deed) (ds : List First) (xs : List ℕ) → length (repeated free es ds xs) ≤ length es
   judge-few [] ds xs = omega arith
-  judge-few (defines l s ∷ es) ds xs = defined-most (first-of (s .value) ds) l s ds (λ v. judge free es v xs) (length es)
+  judge-few (defines l s ∷ es) ds xs = defined-most (first-of (s .value) ds) l s ds (λ v. repeated free es v xs) (length es)
       (λ v. judge-few es v xs)
   judge-few (repeats s ∷ es) ds xs =
-      pick-most (may-repeat free (first-of (s .value) ds) (times (s .value) xs)) (judge free es ds (s .value ∷ xs))
-      (defined (first-of (s .value) ds) false s ds (λ v. judge free es v xs)) (length es) (judge-few es ds (s .value ∷ xs))
-      (defined-most (first-of (s .value) ds) false s ds (λ v. judge free es v xs) (length es) (λ v. judge-few es v xs))
+      pick-most (may-repeat free (first-of (s .value) ds) (times (s .value) xs)) (repeated free es ds (s .value ∷ xs))
+      (defined (first-of (s .value) ds) false s ds (λ v. repeated free es v xs)) (length es) (judge-few es ds (s .value ∷ xs))
+      (defined-most (first-of (s .value) ds) false s ds (λ v. repeated free es v xs) (length es) (λ v. judge-few es v xs))
 
 -- INCOMPATIBLE: at most two records a node
 pub incompatible-few : (free is-type names-type : ℕ → Bool) (f : Forest) → length (incompatible free is-type names-type f) ≤ 2 * nodes f
 incompatible-few free is-type names-type f =
     let a = each-few (check-at is-type names-type)
     (λ h k. listed-one ((eqb 31 (h .kind) || eqb 32 (h .kind)) && type-check is-type names-type k)
-    (named-at 14 (with-value (h .spot) (place 2 k .value)))) f in
+    (named-at 14 (with-value (h .spot) (spot-at 2 k .value)))) f in
     let b = judge-few free (deeds f) [] [] in
     let c = deeds-few f in
-    let e = length-append (each-node (check-at is-type names-type) f) (judge free (deeds f) [] []) in
+    let e = length-append (each-node (check-at is-type names-type) f) (repeated free (deeds f) [] []) in
     omega (arith, a, b, c, e)
 
 -- ---- dubious
@@ -412,7 +409,7 @@ module _ (test : ℕ → ℕ → Likeness) (reason : Likeness → Span) where
   pub dubious-few : (f : Forest) → length (dubious test reason f) ≤ 2 * nodes f
   dubious-few f =
       let a = dicts-most f in
-      let b = each-few idle-at (λ h k. listed-one (eqb 5 (h .kind) && eqb 20 (kind-at 4 k)) (named-at 17 (place 4 k))) f in
+      let b = each-few idle-at (λ h k. listed-one (eqb 5 (h .kind) && eqb 20 (kind-at 4 k)) (named-at 17 (spot-at 4 k))) f in
       let e = length-append (each-node (dict-at test reason) f) (each-node idle-at f) in
       omega (arith, a, b, e)
 

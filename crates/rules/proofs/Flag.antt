@@ -10,7 +10,7 @@ use Rattle.tree.specs.Forest.{Spot}
 use Rattle.rules.specs.Order.{Cmd, skip, _⨟_, use-of, set-of, stop, branch, loop, scope}
 use Rattle.rules.specs.Names.{Standing, absent, maybe, definitely, sure, Scope, State, Search, Found, nowhere, surely, perhaps, search-out, use-out, use-as, branch-of, round, rounds, same-state, leave-to, enter, walk, fresh, set-names, same, Setting, Warning, warned, warn, warn-new, warn-if, warn-all, idle, spared, unused, farewell, passed, undefined, names-of}
 use Rattle.rules.proofs.Keep.{Kept, kept-cons, walk-keeps, scope-same}
-use Rattle.rules.proofs.Sound.{Ok, ok-within, ok-back, back, sound, grows}
+use Rattle.rules.proofs.Invariant.{Ok, ok-within, ok-back, back, sound, grows}
 use Rattle.rules.proofs.Bools.{or-cases, nor-both, nor-left, nor-right, never, or-left, or-right, both}
 use Rattle.rules.specs.Runs.{Held, nobody, Reach, here, first as before, second as after, left, right, now, later, continued, own}
 use Rattle.rules.proofs.Spots.{same-exact}

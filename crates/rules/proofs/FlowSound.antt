@@ -1,16 +1,18 @@
 -- Demand 3, the flow half: a def that wants a value, and whose run reaches its end or a bare return, is in the flow list.
 use Prim.Native.Nat.{ℕ}
 use mathlib.Core.Path.{_≡_, refl, sym, ap, subst}
-use mathlib.Core.Bool.{Bool, true, false, cond, not}
+use mathlib.Core.Bool.{Bool, true, false, cond, _&&_, not}
 use mathlib.Core.List.{List, [], _∷_, _++_, List·Memᴰ, List·Memᴰ·head, List·Memᴰ·tail, Memᴰ·append-left, Memᴰ·append-right}
 use mathlib.Core.Logic.{_⊎_, inl, inr}
 use mathlib.Core.Option.{Option, some}
 use lib.Dec.{eqb, T, eqb→eq}
 use Rattle.tree.specs.Forest.{Spot, Head, Forest, Forest.none as leaf, node}
-use Rattle.rules.specs.Order.{Form, forms, look, form-of, has, fail-called, Stop, Cmd, breaks, bare, valued, fails, skip, _⨟_, use-of, set-of, stop, branch, loop, scope, Want, of-role, every, first-over, first-bound, clauses, picked, part, takes, binds, uses, def-body, Bind, one, several, nothing, bind-of, bind-part, use-part}
+use Rattle.rules.specs.Visit.{look, has, last-of, spot-at}
+use Rattle.rules.specs.Order.{Form, forms, form-of, fail-called, Stop, Cmd, breaks, bare, valued, fails, skip, _⨟_, use-of, set-of, stop, branch, loop, scope, Want, of-role, every, first-over, first-bound, clauses, picked, part, takes, binds, uses, def-body, Bind, one, several, nothing, bind-of, bind-part, use-part}
 use Rattle.rules.specs.Record.{Rec, listed}
-use Rattle.rules.specs.Flow.{Return, Which, everything, the-body, the-rest, wanted, last-of, returns-part, returns, ends-part, ends, reason, bare-recs, missing, check-for, check, returns-walk, flow, place, reach, redundant-walk, below-root, loads, effect-walk, only, missing-expression}
+use Rattle.rules.specs.Flow.{Return, Which, everything, the-body, the-rest, wanted, returns-part, returns, ends-part, ends, reason, bare-recs, missing, check-for, check, returns-walk, flow, reached, redundant-walk, below-root, loads, effect-walk, only, missing-expression}
 use Rattle.rules.proofs.Bools.{and-left, and-right}
+use Rattle.rules.proofs.Look.{case, look-with, look-none, fewer}
 use Rattle.rules.specs.Runs.{Node, at, below, beside, Held, nobody, through, by, Run, skips, next, cut, uses as used, sets, breaking, returns as returned, left, right, done, round, continues, out, away, apart}
 
 -- where a part can be come through
@@ -138,8 +140,30 @@ no-by-cond : (t : Spot) (b : Bool) → By t (cond b (stop fails) skip) → ⊥
 no-by-cond t true p = p
 no-by-cond t false p = p
 
+-- what a node's form says of the two, for the walk goes by forms
+abbrev returns-form : Form → Head → Forest → (Which → List Return) → List Return
+returns-form z h k down = case z ((Form.returning, record { spot = h .spot; valued = has 4 k } ∷ down everything) ∷ (Form.def, down the-rest) ∷ []) (down everything)
+
+abbrev ends-form : (ℕ → Bool) → Form → Forest → (ℕ → Bool) → Bool
+ends-form is-fail z k down = case z ((Form.returning, true) ∷ (Form.expression, fail-called is-fail k) ∷ (Form.statements, down 0)
+    ∷ (Form.if-else, down 1 && down 2) ∷ []) false
+
+returns-by : (n : ℕ) (h : Head) (k : Forest) (down : Which → List Return) → returns-part n h k down ≡ returns-form (look n forms Form.plain) h k down
+returns-by n h k down =
+    let rows : List (ℕ × List Return) = (4, record { spot = h .spot; valued = has 4 k } ∷ down everything) ∷ (12, down the-rest) ∷ [] in
+    look-with (λ m z. returns-part m h k down ≡ returns-form z h k down) n forms Form.plain
+    (refl, (refl, (refl, (refl, (refl, (refl, (refl, (refl, (refl, (refl, (refl, (refl, (refl, (refl, (refl, (refl, tt))))))))))))))))
+    (λ u. look-none n rows (down everything) (fewer n rows forms tt u))
+
+ends-by : (is-fail : ℕ → Bool) (n : ℕ) (k : Forest) (down : ℕ → Bool) → ends-part is-fail n k down ≡ ends-form is-fail (look n forms Form.plain) k down
+ends-by is-fail n k down =
+    let rows : List (ℕ × Bool) = (4, true) ∷ (5, fail-called is-fail k) ∷ (8, down 0) ∷ (10, down 1 && down 2) ∷ [] in
+    look-with (λ m z. ends-part is-fail m k down ≡ ends-form is-fail z k down) n forms Form.plain
+    (refl, (refl, (refl, (refl, (refl, (refl, (refl, (refl, (refl, (refl, (refl, (refl, (refl, (refl, (refl, (refl, tt))))))))))))))))
+    (λ u. look-none n rows false (fewer n rows forms tt u))
+
 into-part : (t : Spot) (z : Form) (h : Head) (k : Forest) (down : Which → List Return) → Bare-in t (down everything)
-    → Bare-in t (down the-rest) → Bare-in t (returns-part z h k down)
+    → Bare-in t (down the-rest) → Bare-in t (returns-form z h k down)
 into-part t Form.breaking h k down a b = a
 into-part t Form.returning h k down a b = List·Memᴰ·tail a
 into-part t Form.expression h k down a b = a
@@ -158,7 +182,7 @@ into-part t Form.plain h k down a b = a
 
 module _ (is-fail is-none is-string : ℕ → Bool) where
   part-ends : (z : Form) (h : Head) (k : Forest) → ((r : ℕ) → T (ends is-fail r k) → Through (takes is-fail (of-role r) k) → ⊥)
-      → T (ends-part is-fail z k (λ v. ends is-fail v k)) → Through (part is-fail z h k (λ v. takes is-fail v k)) → ⊥
+      → T (ends-form is-fail z k (λ v. ends is-fail v k)) → Through (part is-fail z h k (λ v. takes is-fail v k)) → ⊥
   part-ends Form.returning h k ih t p = p .1
   part-ends Form.expression h k ih t p = no-fail (fail-called is-fail k) t (p .1)
   part-ends Form.statements h k ih t p = ih 0 t p
@@ -182,22 +206,22 @@ module _ (is-fail is-none is-string : ℕ → Bool) where
   -- a body that ends surely is not come through
   ends-surely : (r : ℕ) (f : Forest) → T (ends is-fail r f) → Through (takes is-fail (of-role r) f) → ⊥
   ends-surely r leaf t p = t
-  ends-surely r (node h k s) t p = last-through (eqb r (h .role)) (has r s) (ends-part is-fail (form-of h) k (λ v. ends is-fail v k))
+  ends-surely r (node h k s) t p = last-through (eqb r (h .role)) (has r s) (ends-part is-fail (h .kind) k (λ v. ends is-fail v k))
       (ends is-fail r s)
       (part is-fail (form-of h) h k (λ v. takes is-fail v k)) (takes is-fail (of-role r) s)
-      (part-ends (form-of h) h k (λ v. ends-surely v k)) (ends-surely r s) t p
+      (λ u. part-ends (form-of h) h k (λ v. ends-surely v k) (subst T (ends-by is-fail (h .kind) k (λ v. ends is-fail v k)) u)) (ends-surely r s) t p
 
   -- a bare return by which a part is left is among its returns
   abbrev Found : Spot → Forest → Type 0
   Found t k = (w : Want) (v : Which) → Cover w v → By t (takes is-fail w k) → Bare-in t (returns v k)
 
   kid : (t : Spot) (z : Form) (h : Head) (k : Forest) → Found t k → (r : ℕ) → T (not (eqb 1 r)) → By t (takes is-fail (of-role r) k)
-      → Bare-in t (returns-part z h k (λ v. returns v k))
+      → Bare-in t (returns-form z h k (λ v. returns v k))
   kid t z h k ih r n p = into-part t z h k (λ v. returns v k) (ih (of-role r) everything all-covered p)
       (ih (of-role r) the-rest (covers-rest r n) p)
 
   part-found : (t : Spot) (z : Form) (h : Head) (k : Forest) → Found t k → By t (part is-fail z h k (λ v. takes is-fail v k))
-      → Bare-in t (returns-part z h k (λ v. returns v k))
+      → Bare-in t (returns-form z h k (λ v. returns v k))
   part-found t Form.breaking h k ih p = absurd p
   part-found t Form.returning h k ih (inl p) = kid t Form.returning h k ih 4 tt p
   part-found t Form.returning h k ih (inr p) = bare-here t (h .spot) (has 4 k) (returns everything k) p
@@ -254,29 +278,33 @@ module _ (is-fail is-none is-string : ℕ → Bool) where
   three t X Y Z A p q n (inr (inl r)) = q r
   three t X Y Z A p q n (inr (inr r)) = absurd (n r)
 
+  by-kind : (t : Spot) (h : Head) (k : Forest) → Bare-in t (returns-form (form-of h) h k (λ v. returns v k))
+      → Bare-in t (returns-part (h .kind) h k (λ v. returns v k))
+  by-kind t h k m = subst (Bare-in t) (sym (returns-by (h .kind) h k (λ v. returns v k))) m
+
   found : (t : Spot) (w : Want) (v : Which) (f : Forest) → Cover w v → By t (takes is-fail w f) → Bare-in t (returns v f)
   found t w v leaf c p = absurd p
   found t (of-role r) v (node h k s) c p = pick-found t (eqb r (h .role)) (wanted v (h .role))
       (part is-fail (form-of h) h k (λ x. takes is-fail x k)) (takes is-fail (of-role r) s)
-      (returns-part (form-of h) h k (λ x. returns x k)) (returns v s) (covers c (h .role))
-      (part-found t (form-of h) h k (λ x y. found t x y k)) (found t (of-role r) v s c) p
+      (returns-part (h .kind) h k (λ x. returns x k)) (returns v s) (covers c (h .role))
+      (λ q. by-kind t h k (part-found t (form-of h) h k (λ x y. found t x y k) q)) (found t (of-role r) v s c) p
   found t every v (node h k s) all-covered p = pick-found t true true (part is-fail (form-of h) h k (λ x. takes is-fail x k))
       (takes is-fail every s)
-      (returns-part (form-of h) h k (λ x. returns x k)) (returns everything s) (λ x. tt)
-      (part-found t (form-of h) h k (λ x y. found t x y k)) (found t every everything s all-covered) p
+      (returns-part (h .kind) h k (λ x. returns x k)) (returns everything s) (λ x. tt)
+      (λ q. by-kind t h k (part-found t (form-of h) h k (λ x y. found t x y k) q)) (found t every everything s all-covered) p
   found t first-over v (node h k s) all-covered p =
       over-found t (eqb 0 (h .role)) (takes is-fail (of-role 4) k) (takes is-fail first-over s)
-      (returns-part (form-of h) h k (λ x. returns x k)) (returns everything s) (kid t (form-of h) h k (λ x y. found t x y k) 4 tt)
+      (returns-part (h .kind) h k (λ x. returns x k)) (returns everything s) (λ q. by-kind t h k (kid t (form-of h) h k (λ x y. found t x y k) 4 tt q))
       (found t first-over everything s all-covered) p
   found t first-bound v (node h k s) all-covered p =
       bound-found t (eqb 0 (h .role)) (takes is-fail (of-role 5) k) (takes is-fail first-bound s) (binds 5 k) (takes is-fail clauses s)
-      (returns-part (form-of h) h k (λ x. returns x k)) (returns everything s) (kid t (form-of h) h k (λ x y. found t x y k) 5 tt)
+      (returns-part (h .kind) h k (λ x. returns x k)) (returns everything s) (λ q. by-kind t h k (kid t (form-of h) h k (λ x y. found t x y k) 5 tt q))
       (no-by-binds t 5 k) (found t clauses everything s all-covered) (found t first-bound everything s all-covered) p
   found t clauses v (node h k s) all-covered p =
       pick-found t (eqb 0 (h .role)) true (takes is-fail (of-role 4) k ⨟ takes is-fail (of-role 5) k ⨟ binds 5 k) (takes is-fail clauses s)
-      (returns-part (form-of h) h k (λ x. returns x k)) (returns everything s) (λ x. tt)
-      (three t (takes is-fail (of-role 4) k) (takes is-fail (of-role 5) k) (binds 5 k) (returns-part (form-of h) h k (λ x. returns x k))
-      (kid t (form-of h) h k (λ x y. found t x y k) 4 tt) (kid t (form-of h) h k (λ x y. found t x y k) 5 tt) (no-by-binds t 5 k))
+      (returns-part (h .kind) h k (λ x. returns x k)) (returns everything s) (λ x. tt)
+      (three t (takes is-fail (of-role 4) k) (takes is-fail (of-role 5) k) (binds 5 k) (returns-part (h .kind) h k (λ x. returns x k))
+      (λ q. by-kind t h k (kid t (form-of h) h k (λ x y. found t x y k) 4 tt q)) (λ q. by-kind t h k (kid t (form-of h) h k (λ x y. found t x y k) 5 tt q)) (no-by-binds t 5 k))
       (found t clauses everything s all-covered) p
 
 module _ (is-fail is-none is-string : ℕ → Bool) where
@@ -296,19 +324,19 @@ module _ (is-fail is-none is-string : ℕ → Bool) where
       recs-on (missing-expression h name why t) (not (r .valued)) (missing-expression h name why (r .spot) ∷ []) (bare-recs h name why us)
       (bare-listed h name why t us m)
 
-  walked : (x : Rec) (h : Head) (k f : Forest) → Node h k f → List·Memᴰ x (check is-fail is-none (form-of h) h k)
+  walked : (x : Rec) (h : Head) (k f : Forest) → Node h k f → List·Memᴰ x (check is-fail is-none (h .kind) h k)
       → List·Memᴰ x (returns-walk is-fail is-none f)
   walked x h k f (at {s = s}) m = Memᴰ·append-left (returns-walk is-fail is-none k ++ returns-walk is-fail is-none s) m
   walked x h k f (below {g = g} {j = j} {s = s} n) m =
-      Memᴰ·append-right (check is-fail is-none (form-of g) g j) (Memᴰ·append-left (returns-walk is-fail is-none s) (walked x h k j n m))
+      Memᴰ·append-right (check is-fail is-none (g .kind) g j) (Memᴰ·append-left (returns-walk is-fail is-none s) (walked x h k j n m))
   walked x h k f (beside {g = g} {j = j} {s = s} n) m =
-      Memᴰ·append-right (check is-fail is-none (form-of g) g j) (Memᴰ·append-right (returns-walk is-fail is-none j) (walked x h k s n m))
+      Memᴰ·append-right (check is-fail is-none (g .kind) g j) (Memᴰ·append-right (returns-walk is-fail is-none j) (walked x h k s n m))
 
   in-flow : (x : Rec) (h : Head) (k f : Forest) (why : Spot) → Node h k f → h .kind ≡ 12 → reason is-none k ≡ some why
       → List·Memᴰ x (check-for is-fail is-none h k (some why)) → List·Memᴰ x (flow is-fail is-none is-string f)
-  in-flow x h k f why n e r m = Memᴰ·append-left (reach is-fail (only 0) f .recs
+  in-flow x h k f why n e r m = Memᴰ·append-left (reached is-fail (only 0) f .recs
       ++ (redundant-walk (below-root f) ++ (loads is-string true f .recs ++ effect-walk is-string f)))
-      (walked x h k f n (subst (λ (z : ℕ). List·Memᴰ x (check is-fail is-none (look z forms Form.plain) h k)) (sym e)
+      (walked x h k f n (subst (λ (z : ℕ). List·Memᴰ x (check is-fail is-none z h k)) (sym e)
       (subst (λ (z : Option Spot). List·Memᴰ x (check-for is-fail is-none h k z)) (sym r) m)))
 
   not-ends : (b : Bool) (x : Rec) (B : List Rec) → (T b → ⊥) → List·Memᴰ x (listed (not b) (x ∷ []) B)
@@ -317,20 +345,20 @@ module _ (is-fail is-none is-string : ℕ → Bool) where
 
   -- A run of a def that wants a value reaches its end: the flow list has the def under missing return.
   pub end-flagged : (f : Forest) (h : Head) (k : Forest) (why : Spot) (τ : Held) → Node h k f → h .kind ≡ 12 → reason is-none k ≡ some why
-      → Run (def-body is-fail k) nobody through τ → List·Memᴰ (missing h (place 6 k) why) (flow is-fail is-none is-string f)
-  end-flagged f h k why τ n e r q = in-flow (missing h (place 6 k) why) h k f why n e r
-      (not-ends (ends is-fail 1 k) (missing h (place 6 k) why) (bare-recs h (place 6 k) why (returns the-body k))
+      → Run (def-body is-fail k) nobody through τ → List·Memᴰ (missing h (spot-at 6 k) why) (flow is-fail is-none is-string f)
+  end-flagged f h k why τ n e r q = in-flow (missing h (spot-at 6 k) why) h k f why n e r
+      (not-ends (ends is-fail 1 k) (missing h (spot-at 6 k) why) (bare-recs h (spot-at 6 k) why (returns the-body k))
       (λ t. ends-surely is-fail is-none is-string 1 k t (run-through q .1)))
 
   -- It reaches a bare return: the flow list has that return under missing return expression.
   pub bare-flagged : (f : Forest) (h : Head) (k : Forest) (why t : Spot) (τ : Held) → Node h k f → h .kind ≡ 12
       → reason is-none k ≡ some why
       → Run (def-body is-fail k) nobody (by (bare t)) τ
-      → List·Memᴰ (missing-expression h (place 6 k) why t) (flow is-fail is-none is-string f)
-  bare-flagged f h k why t τ n e r q = in-flow (missing-expression h (place 6 k) why t) h k f why n e r
-      (recs-on (missing-expression h (place 6 k) why t) (not (ends is-fail 1 k)) (missing h (place 6 k) why ∷ [])
-      (bare-recs h (place 6 k) why (returns the-body k))
-      (bare-listed h (place 6 k) why t (returns the-body k) (inner (run-by q))))
+      → List·Memᴰ (missing-expression h (spot-at 6 k) why t) (flow is-fail is-none is-string f)
+  bare-flagged f h k why t τ n e r q = in-flow (missing-expression h (spot-at 6 k) why t) h k f why n e r
+      (recs-on (missing-expression h (spot-at 6 k) why t) (not (ends is-fail 1 k)) (missing h (spot-at 6 k) why ∷ [])
+      (bare-recs h (spot-at 6 k) why (returns the-body k))
+      (bare-listed h (spot-at 6 k) why t (returns the-body k) (inner (run-by q))))
     where
       inner : By t (def-body is-fail k) → Bare-in t (returns the-body k)
       inner (inl p) = absurd (no-by-binds t 0 k p)
@@ -339,9 +367,9 @@ module _ (is-fail is-none is-string : ℕ → Bool) where
 -- DEMAND 3, the flow half, of every tree: a run of a def that wants a value, which reaches its end or a bare return.
 pub flow-demand : (is-fail is-none is-string : ℕ → Bool) (f : Forest) (h : Head) (k : Forest) (why : Spot) (τ : Held) → Node h k f
     → h .kind ≡ 12 → reason is-none k ≡ some why
-    → (Run (def-body is-fail k) nobody through τ → List·Memᴰ (missing h (place 6 k) why) (flow is-fail is-none is-string f))
+    → (Run (def-body is-fail k) nobody through τ → List·Memᴰ (missing h (spot-at 6 k) why) (flow is-fail is-none is-string f))
     × ((t : Spot) → Run (def-body is-fail k) nobody (by (bare t)) τ
-    → List·Memᴰ (missing-expression h (place 6 k) why t) (flow is-fail is-none is-string f))
+    → List·Memᴰ (missing-expression h (spot-at 6 k) why t) (flow is-fail is-none is-string f))
 flow-demand is-fail is-none is-string f h k why τ n e r = (
   (λ q. end-flagged is-fail is-none is-string f h k why τ n e r q),
   (λ t q. bare-flagged is-fail is-none is-string f h k why t τ n e r q),

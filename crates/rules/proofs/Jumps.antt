@@ -5,8 +5,9 @@ use mathlib.Core.Bool.{Bool, true, false, cond, _&&_, _||_, not}
 use mathlib.Core.List.{List, [], _∷_}
 use lib.Dec.{eqb, T, eqb→eq}
 use Rattle.tree.specs.Forest.{Spot, Head, Forest, Forest.none as leaf, node}
-use Rattle.rules.specs.Order.{Form, forms, look, form-of, has, fail-called, Broken, Stop, breaks, bare, valued, fails, Sort, Cmd, skip, _⨟_, use-of, set-of, stop, branch, loop, scope, Want, of-role, every, first-over, first-bound, clauses, picked, part, takes, binds, uses, Bind, one, several, nothing, bind-of, bind-part, use-part}
-use Rattle.rules.specs.Runs.{Node, at, below, beside, Body, of-module, of-def, Held, by, Run, next, cut, left, right, round, continues, away, returns, returning}
+use Rattle.rules.specs.Visit.{look, has}
+use Rattle.rules.specs.Order.{Form, forms, form-of, fail-called, Broken, Stop, breaks, bare, valued, fails, Sort, Cmd, skip, _⨟_, use-of, set-of, stop, branch, loop, scope, Want, of-role, every, first-over, first-bound, clauses, picked, part, takes, binds, uses, Bind, one, several, nothing, bind-of, bind-part, use-part}
+use Rattle.rules.specs.Runs.{Node, at, below, beside, Body, of-module, of-def, Held, by, Run, next, cut, left, right, round, continues, away, returns, is-return}
 use Rattle.rules.specs.Premises.{is-jump, within, jumps-within, jumps-in-loops}
 use Rattle.rules.proofs.Bools.{and-left, and-right}
 use Rattle.rules.proofs.Look.{All}
@@ -259,7 +260,7 @@ module _ (is-fail : ℕ → Bool) where
 
   -- THE SECOND PREMISE leaves two ends to a run of a body that finishes: the body's end, and a return.
   pub ends-whole : (f : Forest) → T (jumps-in-loops f) → {b : Cmd} → Body is-fail f b → (w : Stop) {σ τ : Held} → Run b σ (by w) τ
-      → T (returning w)
+      → T (is-return w)
   ends-whole f t m (breaks j) {σ} {τ} r = tight-body f t m σ τ j r
   ends-whole f t m (bare s) r = tt
   ends-whole f t m valued r = tt

@@ -7,8 +7,8 @@ use mathlib.Core.Option.{Option, none, some}
 use lib.Dec.{eqb, leb, T}
 use Rattle.tree.specs.Forest.{Spot}
 use Rattle.rules.specs.Order.{Sort, Cmd, skip, _⨟_, use-of, set-of, stop, branch, loop, scope}
-use Rattle.rules.specs.Names.{abort-of, Standing, absent, maybe, definitely, same, named, Setting, set-names, Scope, fresh, Warning, State, warned, warn-new, warn, warn-if, warn-all, keep, set-at, mark, cannot, unbinds, stands, Found, nowhere, surely, perhaps, Search, search-step, search-out, use-out, use-as, branch-of, join, smaller, unloop, same-state, round, rounds, unused, spared-at, spared, idle, farewell, enter, passed, leave-to, walk, undefined, names-of}
-use Rattle.rules.specs.Marks.{inside, add, adds, same-sort, same-setting}
+use Rattle.rules.specs.Names.{abort-of, Standing, absent, maybe, definitely, same, has-name, Setting, set-names, Scope, fresh, Warning, State, warned, warn-new, warn, warn-if, warn-all, keep, set-at, mark, cannot, unbinds, stands, Found, nowhere, surely, perhaps, Search, search-step, search-out, use-out, use-as, branch-of, join, smaller, unloop, same-state, round, rounds, unused, spared-at, spared, idle, farewell, enter, passed, leave-to, walk, undefined, names-of}
+use Rattle.rules.specs.code.Marks.{inside, add, adds, same-sort, same-setting}
 use Rattle.rules.proofs.Once.{over, once, adds-append, over-adds, add-in, inside-adds, add-there}
 use Rattle.rules.proofs.Bools.{so, or-left, or-right, or-case, and-left, and-right, both}
 use Rattle.rules.proofs.Spots.{same-sound, same-exact}
@@ -139,17 +139,17 @@ or-assoc : (a b c : Bool) → (a || b) || c ≡ a || (b || c)
 or-assoc true b c = refl
 or-assoc false b c = refl
 
-named-over : (x : ℕ) (l : List Spot) (b : Bool) → over (λ (s : Spot) (r : Bool). r || eqb x (s .value)) l b ≡ b || named x l
+named-over : (x : ℕ) (l : List Spot) (b : Bool) → over (λ (s : Spot) (r : Bool). r || eqb x (s .value)) l b ≡ b || has-name x l
 named-over x [] true = refl
 named-over x [] false = refl
-named-over x (s ∷ ss) b = named-over x ss (b || eqb x (s .value)) ∙ or-assoc b (eqb x (s .value)) (named x ss)
+named-over x (s ∷ ss) b = named-over x ss (b || eqb x (s .value)) ∙ or-assoc b (eqb x (s .value)) (has-name x ss)
 
 set-over : (x : ℕ) (l : List Setting) (b : Bool) → over (λ (s : Setting) (r : Bool). r || eqb x (s .spot .value)) l b ≡ b || set-names x l
 set-over x [] true = refl
 set-over x [] false = refl
 set-over x (s ∷ ss) b = set-over x ss (b || eqb x (s .spot .value)) ∙ or-assoc b (eqb x (s .spot .value)) (set-names x ss)
 
-pub named-once : (x : ℕ) (l : List Spot) → named x (once same l) ≡ named x l
+pub named-once : (x : ℕ) (l : List Spot) → has-name x (once same l) ≡ has-name x l
 named-once x l = sym (named-over x (once same l) false)
     ∙ over-adds same same-sound same-exact (λ s r. r || eqb x (s .value)) (λ s b. T (not (eqb x (s .value)) || b))
     (λ s b. has-does (eqb x (s .value)) b) (λ s t b. has-stays (eqb x (s .value)) (eqb x (t .value)) b)

@@ -3,7 +3,7 @@ pub mod Bools
 pub mod Look
 pub mod Spots
 pub mod Keep
-pub mod Sound
+pub mod Invariant
 pub mod Flag
 pub mod FlowSound
 pub mod Unique
@@ -28,3 +28,5 @@ pub mod Words
 pub mod Answered
 pub mod Called
 pub mod Known
+pub mod Checked
+pub mod Examples

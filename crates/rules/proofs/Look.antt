@@ -4,9 +4,33 @@ use mathlib.Core.Path.{_≡_, refl, sym, ap, subst, _∙_}
 use mathlib.Core.Bool.{Bool, true, false, _&&_, not}
 use mathlib.Core.List.{List, [], _∷_}
 use mathlib.Core.Logic.{_⊎_, inl, inr}
-use lib.Dec.{eqb, T, eqb→eq}
-use Rattle.rules.specs.Order.{look, case, rank, Form, forms, Bind, one, several, nothing, bindings}
-use Rattle.rules.proofs.Bools.{and-left, and-right, test}
+use lib.Dec.{eqb, T, eqb→eq, not-T}
+use Rattle.rules.specs.Visit.{look}
+use Rattle.rules.specs.Order.{Form, forms, Bind, one, several, nothing, bindings}
+use Rattle.rules.proofs.Bools.{and-left, and-right, both, never, test}
+
+-- a number for each form, all different: forms are told apart by it
+abbrev pub rank : Form → ℕ
+rank Form.breaking = 0
+rank Form.returning = 1
+rank Form.expression = 2
+rank Form.assign = 3
+rank Form.modify = 4
+rank Form.statements = 5
+rank Form.if = 6
+rank Form.if-else = 7
+rank Form.for = 8
+rank Form.def = 9
+rank Form.load = 10
+rank Form.identifier = 11
+rank Form.lambda = 12
+rank Form.comprehension = 13
+rank Form.plain = 14
+
+-- what a table's rows say of a form; d: of any other form
+abbrev pub case {ℓ} : {A : Type ℓ} → Form → List (Form × A) → A → A
+case z [] d = d
+case z (e ∷ es) d = elim (eqb (rank z) (rank (e .0))) [ true ↦ e .1 | false ↦ case z es d ]
 
 -- what a table holds of each entry it holds of what is looked up
 abbrev pub All : {A : Type 0} → (ℕ → A → Type 0) → List (ℕ × A) → Type 0
@@ -38,7 +62,7 @@ none-step : {A : Type 0} (b : Bool) (a x d : A) (u : Bool) → T (not b && u) �
 none-step true a x d u t f = absurd t
 none-step false a x d u t f = f t
 
--- where no row is of that number, or of that form, the table says what it says of any other
+-- where no row is of that number the table says what it says of any other
 abbrev pub unlisted : {A : Type 0} → ℕ → List (ℕ × A) → Bool
 unlisted k [] = true
 unlisted k (e ∷ es) = not (eqb k (e .0)) && unlisted k es
@@ -47,69 +71,31 @@ pub look-none : {A : Type 0} (k : ℕ) (es : List (ℕ × A)) (d : A) → T (unl
 look-none k [] d t = refl
 look-none k (e ∷ es) d t = none-step (eqb k (e .0)) (e .1) (look k es d) d (unlisted k es) t (look-none k es d)
 
-abbrev pub unnamed : {A : Type 0} → Form → List (Form × A) → Bool
-unnamed z [] = true
-unnamed z (e ∷ es) = not (eqb (rank z) (rank (e .0))) && unnamed z es
+-- the same where a row's number is not the one looked up for what the table says of any other
+pub look-with : {A : Type 0} (Q : ℕ → A → Type 0) (k : ℕ) (es : List (ℕ × A)) (d : A) → All Q es → (T (unlisted k es) → Q k d) → Q k (look k es d)
+look-with Q k [] d p q = q tt
+look-with {A} Q k (e ∷ es) d p q = go (eqb k (e .0)) (eqb→eq k (e .0)) (λ n. look-with Q k es d (p .1) (λ u. q (both (not (eqb k (e .0))) (unlisted k es) n u)))
+  where
+    go : (b : Bool) → (T b → k ≡ e .0) → (T (not b) → Q k (look k es d)) → Q k (elim b as (λ x. A) [ true ↦ e .1 | false ↦ look k es d ])
+    go true f g = subst (λ (x : ℕ). Q x (e .1)) (sym (f tt)) (p .0)
+    go false f g = g tt
 
-pub case-none : {A : Type 0} (z : Form) (es : List (Form × A)) (d : A) → T (unnamed z es) → case z es d ≡ d
-case-none z [] d t = refl
-case-none z (e ∷ es) d t = none-step (eqb (rank z) (rank (e .0))) (e .1) (case z es d) d (unnamed z es) t (case-none z es d)
+-- what no row of a table is of, no row is of in a table of some of its numbers
+pub fewer : {A B : Type 0} (k : ℕ) (es : List (ℕ × A)) (fs : List (ℕ × B)) → T (all-so (λ n a. not (unlisted n fs)) es) → T (unlisted k fs)
+    → T (unlisted k es)
+fewer k [] fs t u = tt
+fewer k (e ∷ es) fs t u = both (not (eqb k (e .0))) (unlisted k es)
+    (not-T (eqb k (e .0)) (λ v. never (unlisted (e .0) fs) (subst (λ (x : ℕ). T (unlisted x fs)) (eqb→eq k (e .0) v) u)
+    (and-left (not (unlisted (e .0) fs)) (all-so (λ n a. not (unlisted n fs)) es) t)))
+    (fewer k es fs (and-right (not (unlisted (e .0) fs)) (all-so (λ n a. not (unlisted n fs)) es) t) u)
 
--- what holds of each row and of any other form holds of what a table of forms says
-abbrev pub Rows : {A : Type 0} → (A → Type 0) → List (Form × A) → Type 0
-Rows Q [] = Unit {0}
-Rows Q (e ∷ es) = Q (e .1) × Rows Q es
+-- what holds of a row and of what comes after it holds of what is looked up
+pub row : {A : Type 0} (Q : A → Type 0) (b : Bool) (a x : A) → Q a → Q x → Q (elim b as (λ y. A) [ true ↦ a | false ↦ x ])
+row Q true a x p q = p
+row Q false a x p q = q
 
-row-step : {A : Type 0} (Q : A → Type 0) (b : Bool) (a x : A) → Q a → Q x → Q (elim b as (λ y. A) [ true ↦ a | false ↦ x ])
-row-step Q true a x p q = p
-row-step Q false a x p q = q
-
-pub case-all : {A : Type 0} (Q : A → Type 0) (z : Form) (es : List (Form × A)) (d : A) → Rows Q es → Q d → Q (case z es d)
-case-all Q z [] d p q = q
-case-all Q z (e ∷ es) d p q = row-step Q (eqb (rank z) (rank (e .0))) (e .1) (case z es d) (p .0) (case-all Q z es d (p .1) q)
-
--- a form has its own rank
-abbrev form-at : ℕ → Form
-form-at n =
-    look n (
-    (0, Form.breaking)
-    ∷ (1, Form.returning)
-    ∷ (2, Form.expression)
-    ∷ (3, Form.assign)
-    ∷ (4, Form.modify)
-    ∷ (5, Form.statements)
-    ∷ (6, Form.if)
-    ∷ (7, Form.if-else)
-    ∷ (8, Form.for)
-    ∷ (9, Form.def)
-    ∷ (10, Form.load)
-    ∷ (11, Form.identifier)
-    ∷ (12, Form.lambda)
-    ∷ (13, Form.comprehension)
-    ∷ (14, Form.plain)
-    ∷ []
-    ) Form.plain
-
-form-back : (z : Form) → form-at (rank z) ≡ z
-form-back Form.breaking = refl
-form-back Form.returning = refl
-form-back Form.expression = refl
-form-back Form.assign = refl
-form-back Form.modify = refl
-form-back Form.statements = refl
-form-back Form.if = refl
-form-back Form.if-else = refl
-form-back Form.for = refl
-form-back Form.def = refl
-form-back Form.load = refl
-form-back Form.identifier = refl
-form-back Form.lambda = refl
-form-back Form.comprehension = refl
-form-back Form.plain = refl
-
-pub one-form : (z y : Form) → (z ≡ y) ⊎ T (not (eqb (rank z) (rank y)))
-one-form z y = test (eqb (rank z) (rank y))
-    (λ t. inl (sym (form-back z) ∙ ap form-at (eqb→eq (rank z) (rank y) t) ∙ form-back y)) inr
+pub one-kind : (n m : ℕ) → (n ≡ m) ⊎ T (not (eqb n m))
+one-kind n m = test (eqb n m) (λ t. inl (eqb→eq n m t)) inr
 
 -- a kind that binds visits what is below it in file order
 abbrev pub Link : Bind → Form → Type 0

@@ -8,9 +8,9 @@ use lib.Dec.{eqb, leb, T, eqb→eq, eqb-refl}
 use Rattle.tree.specs.Forest.{Spot, Forest, treeOf}
 use Rattle.tree.specs.Table.{tableOf, spells, underscored, globalsOf}
 use Rattle.rules.specs.Order.{Sort, Cmd, skip, _⨟_, use-of, set-of, stop, branch, loop, scope, body, fail-name}
-use Rattle.rules.specs.Names.{Abort, aborts, abort-of, Standing, absent, maybe, definitely, Spots, spots, sure, stand, has-standing, joined, join, join-sure, smaller, unloop, same, named, Setting, set-names, Scope, fresh, Warning, State, warn, warn-if, warn-all, keep, mark, stands, Found, nowhere, surely, perhaps, Search, search-step, search-out, use-out, use-as, branch-of, same-state, round, rounds, unused, is-assign, spared, idle, farewell, enter, passed, leave-to, walk, undefined, names-of, names, told, names-list}
+use Rattle.rules.specs.Names.{Abort, aborts, abort-of, Standing, absent, maybe, definitely, Spots, spots, sure, stand, has-standing, stand-if, join, join-sure, smaller, unloop, same, has-name, Setting, set-names, Scope, fresh, Warning, State, warn, warn-if, warn-all, keep, mark, stands, Found, nowhere, surely, perhaps, Search, search-step, search-out, use-out, use-as, branch-of, same-state, round, rounds, unused, is-assign, spared, idle, farewell, enter, passed, leave-to, walk, undefined, names-of, names, told, names-list}
 use Rattle.rules.proofs.Keep.{scope-same}
-use Rattle.rules.specs.Marks.{put, inside, add, adds, same-setting, Level, Absent, Maybe, Definitely, Entry, Room, House, empty-room, setting-of, settings-of, find, level-at, used-at, held-at, reset, resets, has-entry, set-entry, set-room, marks, mark-room, cannot-room, unbinds-room, stop-room, Looked, look-step, look-out, use-away, use-level, Note, notes, later-notes, restore, has-level, sure-level, level-if, join-level, merge, back-room, join-room, branch-house, same-house, round-house, rounds-house, spared-room, idle-room, sets-name, farewell-room, passed-room, enter-house, leave-house, tour, undefined-room, names-tour}
+use Rattle.rules.specs.code.Marks.{put, inside, add, adds, same-setting, Level, Absent, Maybe, Definitely, Entry, Chamber, House, empty-room, setting-of, settings-of, find, level-at, used-at, held-at, reset, resets, has-entry, set-entry, set-room, marks, mark-room, cannot-room, unbinds-room, stop-room, Looked, look-step, look-out, use-away, use-level, Note, notes, later-notes, restore, has-level, sure-level, level-if, join-level, merge, back-room, join-room, branch-house, same-house, round-house, rounds-house, spared-room, idle-room, sets-name, farewell-room, passed-room, enter-house, leave-house, tour, undefined-room, names-tour}
 use Rattle.rules.proofs.Bools.{nope, so, or-left, or-right, or-case}
 use Rattle.rules.proofs.Once.{once, adds-append}
 use Rattle.rules.proofs.Lean.{setting-sound, set-lean, cannot-lean, unbinds-lean, slim, slims, slim-cannot, slim-both, slim-set, slim-unbinds, passed-warns, farewell-slim, middle}
@@ -264,7 +264,7 @@ level-of absent = Absent
 level-of (maybe ss) = Maybe
 level-of (definitely ss) = Definitely
 
-pub record Shows (c : Scope) (r : Room) : Type 0 where
+pub record Shows (c : Scope) (r : Chamber) : Type 0 where
   pub cant : r .cant ≡ c .cant
   pub unbound : r .unbound ≡ c .unbound
   pub abort : r .abort ≡ c .abort
@@ -273,9 +273,9 @@ pub record Shows (c : Scope) (r : Room) : Type 0 where
   pub used : (t : Spot) → used-at t (r .entries) ≡ c .used t
   pub held : (t : Spot) → held-at t (r .entries) ≡ spots (c .standing (t .value)) t
 
-pub data All : List Scope → List Room → Type 0 where
+pub data All : List Scope → List Chamber → Type 0 where
   all-nil : All [] []
-  all-cons : {c : Scope} {r : Room} {cs : List Scope} {rs : List Room} → Shows c r → All cs rs → All (c ∷ cs) (r ∷ rs)
+  all-cons : {c : Scope} {r : Chamber} {cs : List Scope} {rs : List Chamber} → Shows c r → All cs rs → All (c ∷ cs) (r ∷ rs)
 
 -- of a state of the rules and an engine's
 pub record Holds (st : State) (m : House) : Type 0 where
@@ -294,7 +294,7 @@ spots-cond : (b : Bool) (x y : Standing) (t : Spot) → spots (cond b x y) t ≡
 spots-cond true x y t = refl
 spots-cond false x y t = refl
 
-shows-set : {c : Scope} {r : Room} (o : Sort) (s : Spot) → Shows c r → Shows (set-lean o s c) (set-room o s r)
+shows-set : {c : Scope} {r : Chamber} (o : Sort) (s : Spot) → Shows c r → Shows (set-lean o s c) (set-room o s r)
 shows-set {c} {r} o s h = record {
   cant = h .cant;
   unbound = h .unbound;
@@ -311,7 +311,7 @@ guard : (b x y : Bool) → (T b → x ≡ y) → b && x ≡ b && y
 guard true x y f = f tt
 guard false x y f = refl
 
-shows-mark : {c : Scope} {r : Room} (x : ℕ) (z : Standing) → c .standing x ≡ z → Shows c r → Shows (mark x (spots z) c) (mark-room x r)
+shows-mark : {c : Scope} {r : Chamber} (x : ℕ) (z : Standing) → c .standing x ≡ z → Shows c r → Shows (mark x (spots z) c) (mark-room x r)
 shows-mark {c} {r} x z e h = record {
   cant = h .cant;
   unbound = h .unbound;
@@ -324,7 +324,7 @@ shows-mark {c} {r} x z e h = record {
   held = λ t. held-marks x t (r .entries) ∙ h .held t;
 }
 
-shows-cannot : {c : Scope} {r : Room} (s : Spot) → Shows c r → Shows (cannot-lean s c) (cannot-room s r)
+shows-cannot : {c : Scope} {r : Chamber} (s : Spot) → Shows c r → Shows (cannot-lean s c) (cannot-room s r)
 shows-cannot s h = record {
   cant = ap (add same s) (h .cant);
   unbound = h .unbound;
@@ -335,7 +335,7 @@ shows-cannot s h = record {
   held = h .held;
 }
 
-shows-unbinds : {c : Scope} {r : Room} (ss ts : List Spot) → ts ≡ ss → Shows c r → Shows (unbinds-lean ss c) (unbinds-room ts r)
+shows-unbinds : {c : Scope} {r : Chamber} (ss ts : List Spot) → ts ≡ ss → Shows c r → Shows (unbinds-lean ss c) (unbinds-room ts r)
 shows-unbinds {c} {r} ss ts e h = record {
   cant = h .cant;
   unbound = ap (λ (l : List Spot). adds same l (r .unbound)) e ∙ ap (adds same ss) (h .unbound);
@@ -346,7 +346,7 @@ shows-unbinds {c} {r} ss ts e h = record {
   held = h .held;
 }
 
-shows-stop : {c : Scope} {r : Room} (a : Abort) → Shows c r → Shows (stands (c .standing) a c) (stop-room a r)
+shows-stop : {c : Scope} {r : Chamber} (a : Abort) → Shows c r → Shows (stands (c .standing) a c) (stop-room a r)
 shows-stop a h = record {
   cant = h .cant;
   unbound = h .unbound;
@@ -357,7 +357,7 @@ shows-stop a h = record {
   held = h .held;
 }
 
-shows-back : {c d : Scope} {r one : Room} → Longer (r .entries) (one .entries) → Shows c r → Shows d one
+shows-back : {c d : Scope} {r one : Chamber} → Longer (r .entries) (one .entries) → Shows c r → Shows d one
     → Shows (stands (c .standing) (c .abort) d) (back-room r one)
 shows-back {c} {d} {r} {one} l h k = record {
   cant = k .cant;
@@ -369,7 +369,7 @@ shows-back {c} {d} {r} {one} l h k = record {
   held = λ t. held-restore t (r .entries) (one .entries) l ∙ h .held t;
 }
 
-level-joined : (h b : Bool) (ss : Spots) → level-of (joined h b ss) ≡ level-if h b
+level-joined : (h b : Bool) (ss : Spots) → level-of (stand-if h b ss) ≡ level-if h b
 level-joined true true ss = refl
 level-joined true false ss = refl
 level-joined false b ss = refl
@@ -400,7 +400,7 @@ spots-join a b absent (definitely ss) t = spots-stand (join-sure (aborts a) (abo
 spots-join a b (maybe rs) y t = spots-stand (join-sure (aborts a) (aborts b) false (sure y)) (λ r. rs r || spots y r) t
 spots-join a b (definitely rs) y t = spots-stand (join-sure (aborts a) (aborts b) true (sure y)) (λ r. rs r || spots y r) t
 
-shows-join : {c d : Scope} {one two : Room} → Longer (one .entries) (two .entries) → Shows c one → Shows d two
+shows-join : {c d : Scope} {one two : Chamber} → Longer (one .entries) (two .entries) → Shows c one → Shows d two
     → Shows (stands (λ x. join (c .abort) (d .abort) (c .standing x) (d .standing x)) (smaller (c .abort) (d .abort)) d) (join-room one two)
 shows-join {c} {d} {one} {two} l h k = record {
   cant = k .cant;
@@ -416,7 +416,7 @@ shows-join {c} {d} {one} {two} l h k = record {
 }
 
 -- what leaving says
-module _ {c : Scope} {r : Room} (h : Shows c r) where
+module _ {c : Scope} {r : Chamber} (h : Shows c r) where
   names-same : _≡_ {A = Spot → Bool} (λ s. sets-name (s .value) (r .entries)) (λ s. set-names (s .value) (c .settings))
   names-same = fun-ext (λ s. names-settings (s .value) (r .entries) ∙ ap (set-names (s .value)) (h .settings))
 
@@ -424,9 +424,9 @@ module _ {c : Scope} {r : Room} (h : Shows c r) where
   passed-same = λ i. keep (λ s. not (names-same i s)) (h .unbound i)
 
   spared-same : (u : ℕ → Bool) (top : Bool) (e : Entry) → spared-room u top r e ≡ spared u top c (setting-of e)
-  spared-same u true e = λ i. h .used (e .spot) i || (named (e .spot .value) (h .unbound i)
+  spared-same u true e = λ i. h .used (e .spot) i || (has-name (e .spot .value) (h .unbound i)
       || (is-assign (e .sort) && (not (u (e .spot .value)) && h .held (e .spot) i)))
-  spared-same u false e = λ i. h .used (e .spot) i || (named (e .spot .value) (h .unbound i) || u (e .spot .value))
+  spared-same u false e = λ i. h .used (e .spot) i || (has-name (e .spot .value) (h .unbound i) || u (e .spot .value))
 
   idle-same : (u : ℕ → Bool) (top : Bool) (es : List Entry) (ws : List Warning) → idle-room u top r es ws ≡ idle u top c (settings-of es) ws
   idle-same u top [] ws = refl
@@ -503,14 +503,14 @@ pub record Sought (q : Search) (l : Looked) : Type 0 where
   pub found : l .found ≡ q .found
   pub scopes : All (slims (q .scopes)) (l .rooms)
 
-step-holds : (x : ℕ) (c : Scope) (cs : List Scope) (q : Search) (r : Room) (rs : List Room) (l : Looked) → Shows (slim c) r
+step-holds : (x : ℕ) (c : Scope) (cs : List Scope) (q : Search) (r : Chamber) (rs : List Chamber) (l : Looked) → Shows (slim c) r
     → All (slims cs) rs → Sought q l
     → (z : Standing) → c .standing x ≡ z → Sought (search-step x c cs q z) (look-step x r rs l (level-of z))
 step-holds x c cs q r rs l h k o absent e = record { found = o .found; scopes = all-cons h (o .scopes) }
 step-holds x c cs q r rs l h k o (maybe ss) e = record { found = refl; scopes = all-cons (shows-mark x (maybe ss) e h) k }
 step-holds x c cs q r rs l h k o (definitely ss) e = record { found = refl; scopes = all-cons (shows-mark x (definitely ss) e h) k }
 
-search-holds : (x : ℕ) (cs : List Scope) (rs : List Room) → All (slims cs) rs → Sought (search-out x cs) (look-out x rs)
+search-holds : (x : ℕ) (cs : List Scope) (rs : List Chamber) → All (slims cs) rs → Sought (search-out x cs) (look-out x rs)
 search-holds x [] rs all-nil = record { found = refl; scopes = all-nil }
 search-holds x (c ∷ cs) rs (all-cons {r = r} {rs = ts} h k) =
     subst (λ (v : Level). Sought (search-out x (c ∷ cs)) (look-step x r ts (look-out x ts) v)) (sym (h .level x))
@@ -591,7 +591,7 @@ rounds-holds : (b : Bool) (f : State → State) (p : House → House) → Follow
 rounds-holds true f p hf gf st m h = round-holds f p hf gf (round f st) (round-house p m) (round-holds f p hf gf st m h)
 rounds-holds false f p hf gf st m h = round-holds f p hf gf st m h
 
-leave-holds : (u : ℕ → Bool) (st : State) (m : House) (cs : List Scope) (rs : List Room) → Holds st m → All (slims cs) rs
+leave-holds : (u : ℕ → Bool) (st : State) (m : House) (cs : List Scope) (rs : List Chamber) → Holds st m → All (slims cs) rs
     → Holds (leave-to u st cs) (leave-house u m rs)
 leave-holds u st m [] rs h all-nil = h
 leave-holds u st m (c ∷ cs) rs h (all-cons {r = r} {rs = ts} k l) = record {
@@ -626,7 +626,7 @@ module _ (u : ℕ → Bool) where
       leave-holds u (walk u d c (enter st)) (tour u d c (enter-house m)) (walk u d c (enter st) .above)
       (tour u d c (enter-house m) .above) r (r .above)
 
-  undefined-same : (g : Option (ℕ → Bool)) (c : Scope) (r : Room) → Shows (slim c) r → (ws : List Warning)
+  undefined-same : (g : Option (ℕ → Bool)) (c : Scope) (r : Chamber) → Shows (slim c) r → (ws : List Warning)
       → undefined-room g r ws ≡ undefined g c ws
   undefined-same none c r h ws = refl
   undefined-same (some given) c r h ws = ap (λ (l : List Spot). warn-all 5 (λ s. not (given (s .value))) l ws) (passed-same h)

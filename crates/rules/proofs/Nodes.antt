@@ -7,9 +7,10 @@ use mathlib.Core.List.{List, [], _∷_, _++_}
 use lib.Dec.{eqb, T, eqb→eq, eqb-refl, T-not}
 use lib.ListN.{length, length-append}
 use Rattle.tree.specs.Forest.{Spot, Head, Forest, Forest.none as leaf, node}
-use Rattle.rules.specs.Order.{Form, form-of, has, fail-called, Stop, Sort, Cmd, breaks, bare, valued, fails, skip, _⨟_, use-of, set-of, stop, branch, loop, scope, Bind, one, several, nothing, bind-of, bind-part, use-part, binds, uses, Want, of-role, every, first-over, first-bound, clauses, picked, part, takes, body, broken-by}
+use Rattle.rules.specs.Visit.{has}
+use Rattle.rules.specs.Order.{Form, form-of, fail-called, Stop, Sort, Cmd, breaks, bare, valued, fails, skip, _⨟_, use-of, set-of, stop, branch, loop, scope, Bind, one, several, nothing, bind-of, bind-part, use-part, binds, uses, Want, of-role, every, first-over, first-bound, clauses, picked, part, takes, body, broken-by}
 use Rattle.rules.specs.Names.{same}
-use Rattle.rules.specs.Marks.{inside, same-setting, total, start, Every, settings-in, cant-in, nodes}
+use Rattle.rules.specs.code.Marks.{inside, same-setting, total, start, Every, settings-in, cant-in, nodes}
 use Rattle.rules.proofs.Once.{once, inside-from}
 use Rattle.rules.proofs.Lean.{setting-sound, setting-exact}
 use Rattle.rules.proofs.Spots.{same-sound, same-exact}

@@ -3,7 +3,7 @@ use mathlib.Core.Path.{_≡_, refl, sym, _∙_, ap, subst}
 use mathlib.Core.Bool.{Bool, true, false}
 use mathlib.Core.List.{List, [], _∷_, _++_}
 use lib.Dec.{T}
-use Rattle.rules.specs.Marks.{put, inside, add, adds}
+use Rattle.rules.specs.code.Marks.{put, inside, add, adds}
 use Rattle.rules.proofs.Bools.{so, or-left, or-right, or-case}
 
 -- f taken over a list, from the left

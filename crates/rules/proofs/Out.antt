@@ -10,7 +10,7 @@ use lib.ListN.{length, length-append}
 use Rattle.tree.specs.Forest.{Spot, Head, Forest, Forest.none as leaf, node}
 use Rattle.rules.specs.Order.{Sort, Cmd, skip, _⨟_, use-of, set-of, stop, branch, loop, scope, fails, Form, form-of, Bind, one, several, nothing, bind-of, bind-part, use-part, binds, uses, picked, Want, of-role, every, first-over, first-bound, clauses, part, takes, body, fail-called}
 use Rattle.rules.specs.Names.{names, Abort, abort-of, unloop, same, Warning, warned, warn-new, warn, warn-if, warn-all, keep, unused, Found, nowhere, surely, perhaps}
-use Rattle.rules.specs.Marks.{put, inside, add, adds, Level, Absent, Maybe, Definitely, Entry, Room, House, level-at, resets, has-entry, set-room, marks, mark-room, cannot-room, unbinds-room, stop-room, Looked, look-step, look-out, use-away, use-level, Note, notes, later-notes, restore, merge, back-room, join-room, branch-house, same-house, round-house, rounds-house, spared-room, idle-room, sets-name, farewell-room, passed-room, enter-house, leave-house, tour, undefined-room, names-tour, nodes, mid, start, Every, Every-rounds}
+use Rattle.rules.specs.code.Marks.{put, inside, add, adds, Level, Absent, Maybe, Definitely, Entry, Chamber, House, level-at, resets, has-entry, set-room, marks, mark-room, cannot-room, unbinds-room, stop-room, Looked, look-step, look-out, use-away, use-level, Note, notes, later-notes, restore, merge, back-room, join-room, branch-house, same-house, round-house, rounds-house, spared-room, idle-room, sets-name, farewell-room, passed-room, enter-house, leave-house, tour, undefined-room, names-tour, nodes, mid, start, Every, Every-rounds}
 use Rattle.rules.proofs.Spots.{same-sound, same-exact}
 use Rattle.rules.proofs.Bounds.{every-map, Plain, plain-add, pigeon, inside-left, inside-right}
 use Rattle.rules.proofs.Marked.{tour-tree}
@@ -88,12 +88,12 @@ module _ (p : Spot → Bool) where
   entries-merge a b ns [] h = tt
   entries-merge a b ns (e ∷ es) h = (h .0, entries-merge a b (later-notes ns) es (h .1))
 
-  record In (r : Room) : Type 0 where
+  record In (r : Chamber) : Type 0 where
     cant : Each (r .cant)
     unbound : Each (r .unbound)
     entries : Entries (r .entries)
 
-  abbrev All : List Room → Type 0
+  abbrev All : List Chamber → Type 0
   All [] = Unit {0}
   All (r ∷ rs) = In r × All rs
 
@@ -116,14 +116,14 @@ module _ (p : Spot → Bool) where
   told-all c q [] ws g h = h
   told-all c q (s ∷ l) ws g h = told-all c q l (warn-if (q s) c s ws) (g .1) (told-if (q s) c s ws (g .0) h)
 
-  told-idle : (u : ℕ → Bool) (top : Bool) (r : Room) (es : List Entry) (ws : List Warning) → Entries es → Told ws
+  told-idle : (u : ℕ → Bool) (top : Bool) (r : Chamber) (es : List Entry) (ws : List Warning) → Entries es → Told ws
       → Told (idle-room u top r es ws)
   told-idle u top r [] ws g h = h
   told-idle u top r (e ∷ es) ws g h =
       told-idle u top r es (warn-if (not (spared-room u top r e)) (unused (e .sort)) (e .spot) ws) (g .1)
       (told-if (not (spared-room u top r e)) (unused (e .sort)) (e .spot) ws (g .0) h)
 
-  told-farewell : (u : ℕ → Bool) (top : Bool) (r : Room) (ws : List Warning) → In r → Told ws → Told (farewell-room u top r ws)
+  told-farewell : (u : ℕ → Bool) (top : Bool) (r : Chamber) (ws : List Warning) → In r → Told ws → Told (farewell-room u top r ws)
   told-farewell u top r ws g h =
       told-idle u top r (r .entries) (warn-all 4 (λ s. sets-name (s .value) (r .entries)) (r .cant) ws) (g .entries)
       (told-all 4 (λ s. sets-name (s .value) (r .entries)) (r .cant) ws (g .cant) h)
@@ -135,7 +135,7 @@ module _ (p : Spot → Bool) where
     above : All (m .above)
     out : Told (m .out)
 
-  in-set : (o : Sort) (s : Spot) (r : Room) → T (p s) → In r → In (set-room o s r)
+  in-set : (o : Sort) (s : Spot) (r : Chamber) → T (p s) → In r → In (set-room o s r)
   in-set o s r t h = record {
     cant = h .cant;
     unbound = h .unbound;
@@ -144,43 +144,43 @@ module _ (p : Spot → Bool) where
         (entries-resets s (r .entries) (h .entries));
   }
 
-  in-mark : (x : ℕ) (r : Room) → In r → In (mark-room x r)
+  in-mark : (x : ℕ) (r : Chamber) → In r → In (mark-room x r)
   in-mark x r h = record { cant = h .cant; unbound = h .unbound; entries = entries-marks x (r .entries) (h .entries) }
 
-  in-cannot : (s : Spot) (r : Room) → T (p s) → In r → In (cannot-room s r)
+  in-cannot : (s : Spot) (r : Chamber) → T (p s) → In r → In (cannot-room s r)
   in-cannot s r t h = record {
     cant = each-put (inside same s (r .cant)) s (r .cant) t (h .cant);
     unbound = h .unbound;
     entries = h .entries;
   }
 
-  in-unbinds : (l : List Spot) (r : Room) → Each l → In r → In (unbinds-room l r)
+  in-unbinds : (l : List Spot) (r : Chamber) → Each l → In r → In (unbinds-room l r)
   in-unbinds l r g h = record { cant = h .cant; unbound = each-adds l (r .unbound) g (h .unbound); entries = h .entries }
 
-  in-stop : (a : Abort) (r : Room) → In r → In (stop-room a r)
+  in-stop : (a : Abort) (r : Chamber) → In r → In (stop-room a r)
   in-stop a r h = record { cant = h .cant; unbound = h .unbound; entries = h .entries }
 
-  in-back : (r fst : Room) → In fst → In (back-room r fst)
+  in-back : (r fst : Chamber) → In fst → In (back-room r fst)
   in-back r fst h = record {
     cant = h .cant;
     unbound = h .unbound;
     entries = entries-restore (notes (r .entries)) (fst .entries) (h .entries);
   }
 
-  in-join : (fst two : Room) → In two → In (join-room fst two)
+  in-join : (fst two : Chamber) → In two → In (join-room fst two)
   in-join fst two h = record {
     cant = h .cant;
     unbound = h .unbound;
     entries = entries-merge (fst .abort) (two .abort) (notes (fst .entries)) (two .entries) (h .entries);
   }
 
-  all-step : (x : ℕ) (r : Room) (rs : List Room) (l : Looked) (v : Level) → In r → All rs → All (l .rooms)
+  all-step : (x : ℕ) (r : Chamber) (rs : List Chamber) (l : Looked) (v : Level) → In r → All rs → All (l .rooms)
       → All (look-step x r rs l v .rooms)
   all-step x r rs l Absent h g i = (h, i)
   all-step x r rs l Maybe h g i = (in-mark x r h, g)
   all-step x r rs l Definitely h g i = (in-mark x r h, g)
 
-  all-look : (x : ℕ) (rs : List Room) → All rs → All (look-out x rs .rooms)
+  all-look : (x : ℕ) (rs : List Chamber) → All rs → All (look-out x rs .rooms)
   all-look x [] h = tt
   all-look x (r ∷ rs) h = all-step x r rs (look-out x rs) (level-at x (r .entries)) (h .0) (h .1) (all-look x rs (h .1))
 
@@ -231,7 +231,7 @@ module _ (p : Spot → Bool) where
   keeps-enter : (m : House) → Keeps m → Keeps (enter-house m)
   keeps-enter m h = record { here = record { cant = tt; unbound = tt; entries = tt }; above = (h .here, h .above); out = h .out }
 
-  keeps-leave : (u : ℕ → Bool) (m : House) (rs : List Room) → All rs → Keeps m → Keeps (leave-house u m rs)
+  keeps-leave : (u : ℕ → Bool) (m : House) (rs : List Chamber) → All rs → Keeps m → Keeps (leave-house u m rs)
   keeps-leave u m [] g h = h
   keeps-leave u m (r ∷ rs) g h = record {
     here = in-unbinds (passed-room (m .here)) r
@@ -433,7 +433,7 @@ module _ (u is-fail : ℕ → Bool) (x : Forest) where
       every-map u (Keeps (is-of (places x))) (λ m. length (m .out) ≤ nodes x) (λ m h. told-few x (m .out) (h .out)) (body is-fail x) 0 start
       (keeps-every (is-of (places x)) u (body is-fail x) 0 own start begin)
 
-  told-undefined : (g : Option (ℕ → Bool)) (r : Room) (ws : List Warning) → In (is-of (places x)) r → Told (is-of (places x)) ws
+  told-undefined : (g : Option (ℕ → Bool)) (r : Chamber) (ws : List Warning) → In (is-of (places x)) r → Told (is-of (places x)) ws
       → Told (is-of (places x)) (undefined-room g r ws)
   told-undefined none r ws i h = h
   told-undefined (some given) r ws i h =

@@ -8,10 +8,10 @@ use lib.Dec.{leb, T}
 use Rattle.tree.specs.Bytes.{u16At, u32At, nodeCount, kindAt, roleAt, sizeAt, beginAt, endAt, valueAt}
 use Rattle.tree.specs.Forest.{spotAt, headAt, forestIn, forestOf, treeOf}
 use Rattle.rules.specs.Order.{Cmd, skip, _⨟_, use-of, set-of, stop, branch, loop, scope, body}
-use Rattle.tree.specs.Children.{classOf, slotOf}
-use Rattle.tree.specs.Shape.{valid, root-fits, fitting, kids-fit, all-stand, all-filled, many, in-order, in-pairs, for-first}
-use Rattle.rules.specs.Marks.{House, round-house, enter-house, tour, total, unbound-in, mid, start}
-use Rattle.rules.specs.Known.{node-of, value-of, file}
+use Rattle.tree.specs.Children.{classOf, slotOf, kids-fit, all-stand, all-filled, many, in-order, in-pairs, for-first}
+use Rattle.tree.specs.code.Shape.{valid, root-fits, fitting}
+use Rattle.rules.specs.code.Marks.{House, round-house, enter-house, tour, total, unbound-in, mid, start}
+use Rattle.tree.specs.Written.{node-of, value-of, file}
 
 abbrev peak-rounds : Bool → (House → ℕ) → (House → House) → House → ℕ
 peak-rounds true p f m = max (p m) (p (round-house f m))

@@ -6,17 +6,18 @@ use mathlib.Core.Bool.{Bool, true, false, _||_, _&&_, not}
 use mathlib.Core.List.{[], _∷_}
 use lib.Dec.{eqb, leb, T, eqb→eq, T-not, not-T}
 use Rattle.tree.specs.Forest.{Forest, Forest.none as leaf, node}
-use Rattle.rules.specs.Order.{case, Form, forms, look, form-of, body}
+use Rattle.rules.specs.Visit.{look}
+use Rattle.rules.specs.Order.{Form, forms, form-of, body}
 use Rattle.rules.proofs.Out.{out-nodes}
 use lib.ListN.{length}
 use Rattle.rules.proofs.Bools.{or-left, or-right, and-left, and-right, both, implies}
-use Rattle.tree.specs.Children.{slotOf}
-use Rattle.tree.specs.Shape.{all-stand, fitting, valid}
+use Rattle.tree.specs.Children.{slotOf, all-stand}
+use Rattle.tree.specs.code.Shape.{fitting, valid}
 use Rattle.tree.proofs.Classes.{slot-so}
 use Rattle.tree.proofs.Shape.{valid-fits, fits-here, fits-kids, fits-rest, fit-stand, stand-here, stand-rest}
-use Rattle.rules.proofs.Look.{look-so}
+use Rattle.rules.proofs.Look.{look-so, case}
 use Rattle.rules.proofs.Valid.{low-class}
-use Rattle.rules.specs.Marks.{House, total, start, Every, settings-in, cant-in, unbound-in, nodes}
+use Rattle.rules.specs.code.Marks.{House, total, start, Every, settings-in, cant-in, unbound-in, nodes}
 use Rattle.rules.proofs.Bounds.{every-both}
 use Rattle.rules.proofs.Nodes.{entries-nodes, cant-nodes}
 use Rattle.rules.proofs.Ways.{modified, modifies, unbound-seven}

@@ -1,23 +1,33 @@
--- Demand 3's runs on small trees: what they allow, what they don't, and what each premise keeps out.
+-- Demand 3's runs on small trees, each way of going on once: what they allow, what they don't, and what each premise keeps out;
+-- at last the demand of a file's bytes.
 use Prim.Native.Nat.{ℕ, _+_}
-use mathlib.Core.Path.{_≡_, refl, ap}
+use mathlib.Core.Path.{_≡_, refl, sym, ap, subst}
 use mathlib.Core.Bool.{Bool, true, false, not}
 use mathlib.Core.List.{List, [], _∷_, map, List·Memᴰ, List·Memᴰ·head, List·Memᴰ·tail, List·Memᴰ·not-nil}
 use mathlib.Core.Logic.{inl, inr}
 use mathlib.Core.Option.{none}
 use native.Mathlib.Omega.{arith}
 use lib.Dec.{eqb, T}
-use Rattle.tree.specs.Forest.{Spot, Forest, Forest.none as leaf, node}
-use Rattle.rules.specs.Order.{Stop, bare, fails, Cmd, _⨟_, stop, of-role, takes, body, def-body}
-use Rattle.rules.specs.Names.{names, told}
+use Rattle.tree.specs.Search.{first as first-of-places}
+use Rattle.tree.specs.Bytes.{u16At, u32At, nodeCount, valueCount, globalCount, kindAt, roleAt, sizeAt, beginAt, endAt, valueAt, lastAt}
+use Rattle.tree.specs.Forest.{Spot, Forest, Forest.none as leaf, node, spotAt, headAt, forestIn, forestOf, treeOf}
+use Rattle.tree.specs.Values.{offset, formed, precedes}
+use Rattle.tree.specs.Table.{tableOf, spells, wrong-value, wrong-global}
+use Rattle.tree.specs.Nodes.{parentIn, parentOf, limitOf, known, wrong-node, depthIn, depthOf, too-deep}
+use Rattle.tree.specs.Children.{classOf, slotOf, all-stand, many, all-filled, in-pairs, for-first, in-order, kids-fit, rootOk, wrong-children}
+use Rattle.tree.specs.Judge.{checks, factsOf, judged}
+use Rattle.tree.specs.code.Shape.{valid, root-fits, fitting}
+use Rattle.tree.specs.declared.Judged.the-variants.{Valid}
+use Rattle.rules.specs.Order.{Stop, bare, fails, Cmd, _⨟_, stop, loop, of-role, binds, takes, body, def-body, fail-name}
+use Rattle.rules.specs.Names.{names, told, names-list}
 use Rattle.rules.specs.Flow.{flow}
 use Rattle.rules.specs.Record.{Rec, Span, no-span, named-at, plainly}
-use Rattle.rules.specs.Runs.{at, below, beside, of-module, of-def, Held, nobody, End, through, by, Run, skips, next, cut, uses, sets, breaking, returns, left, right, done, continues, out, apart, Reach, here, first, second}
+use Rattle.rules.specs.Runs.{at, below, beside, of-module, of-def, own, Held, nobody, hold, End, through, by, Run, skips, next, cut, uses, sets, breaking, returns, left, right, done, continues, out, apart, round, away, Reach, here, first, second, now, later, continued}
 use Rattle.rules.specs.Premises.{Premises, names-apart, jumps-in-loops}
 use Rattle.rules.specs.Letter.{Told, Demand3}
-use Rattle.tree.specs.Children.{classOf, slotOf}
-use Rattle.tree.specs.Shape.{valid, root-fits, fitting, kids-fit, all-stand, all-filled, many, in-order, in-pairs, for-first}
+use Rattle.rules.specs.Known.{looped as looped-file}
 use Rattle.rules.proofs.Demand3.{demand3, demand3-more}
+use Rattle.rules.proofs.Whole.{the-demand}
 
 -- nothing after a break, a continue, a return or a call of fail is reached, and a call of fail never finishes
 pub nothing-after : {w : Stop} {b : Cmd} {s : Spot} {σ : Held} → Reach s (stop w ⨟ b) σ → ⊥
@@ -158,6 +168,70 @@ continue-reached = first (second (next (next uses skips) (continues (next (next 
 break-told : Told (spot 66 67 0) (warnings (skipping 1))
 break-told = theorem (skipping 1) break-valid (record { unlike = tt; looped = tt }) .unset of-module (spot 66 67 0) tt break-reached
 
+-- A ROUND IS RUN: for i in xs: (if c: a = 1); then print(a). The round takes the side that sets no a.
+abbrev turned : Forest
+turned = list 0 (for-i 0 0 (if-c 1 14 (assigns 1 20 leaf) leaf) (prints 0 60 leaf))
+
+turned-valid : T (valid turned)
+unfolding valid root-fits fitting kids-fit all-stand all-filled many in-order in-pairs for-first classOf slotOf
+turned-valid = tt
+
+turned-reached : Reach (spot 66 67 0) (module-of turned) nobody
+turned-reached = first (second (next (next uses skips) (round (next (next skips skips)
+    (next (next sets skips) (next (next (next uses skips) (right skips)) skips))) done))
+    (printed 60 leaf tt))
+
+turned-told : Told (spot 66 67 0) (warnings turned)
+turned-told = theorem turned turned-valid (record { unlike = tt; looped = tt }) .unset of-module (spot 66 67 0) tt turned-reached
+
+-- ON A SIDE: if c: print(a); then a = 1
+abbrev aside : Forest
+aside = list 0 (if-c 0 0 (prints 1 6 leaf) (assigns 0 20 leaf))
+
+aside-valid : T (valid aside)
+unfolding valid root-fits fitting kids-fit all-stand all-filled many in-order in-pairs for-first classOf slotOf
+aside-valid = tt
+
+aside-reached : Reach (spot 12 13 0) (module-of aside) nobody
+aside-reached = first (first (second (next uses skips) (left (first (first (first (second uses (first (here tt)))))))))
+
+aside-told : Told (spot 12 13 0) (warnings aside)
+aside-told = theorem aside aside-valid (record { unlike = tt; looped = tt }) .unset of-module (spot 12 13 0) tt aside-reached
+
+-- IN A ROUND: for i in xs: (if c: continue; else: print(a)); then a = 1. In the first round, or in one that follows another's end or
+-- its continue.
+abbrev around-kids : Forest
+around-kids = n 40 5 4 5 3 leaf (n 20 4 9 11 4 leaf (if-else-c 1 14 (bare-of 2 1 20 (prints 2 30 leaf)) leaf))
+
+abbrev around : Forest
+around = list 0 (n 11 0 0 50 65535 around-kids (assigns 0 60 leaf))
+
+around-valid : T (valid around)
+unfolding valid root-fits fitting kids-fit all-stand all-filled many in-order in-pairs for-first classOf slotOf
+around-valid = tt
+
+abbrev one-round : Cmd
+one-round = takes is-fail (of-role 5) around-kids ⨟ binds 5 around-kids ⨟ takes is-fail (of-role 1) around-kids
+
+in-round : {σ : Held} → T (not (σ 0)) → Reach (spot 36 37 0) one-round σ
+in-round t = second (next skips skips) (second (next sets skips) (first (second (next uses skips) (right
+    (first (first (first (second uses (first (here t))))))))))
+
+first-round : Reach (spot 36 37 0) (loop one-round) nobody
+first-round = now (in-round tt)
+
+next-round : Reach (spot 36 37 0) (loop one-round) nobody
+next-round = later (next (next skips skips) (next (next sets skips) (next (next (next uses skips) (right
+    (next (next (next (next uses (next uses skips)) skips) skips) skips))) skips))) (now (in-round tt))
+
+after-continue : Reach (spot 36 37 0) (loop one-round) nobody
+after-continue = continued (next (next skips skips) (next (next sets skips) (cut (next (next uses skips) (left (cut breaking))))))
+    (now (in-round tt))
+
+around-told : Reach (spot 36 37 0) (loop one-round) nobody → Told (spot 36 37 0) (warnings around)
+around-told r = theorem around around-valid (record { unlike = tt; looped = tt }) .unset of-module (spot 36 37 0) tt
+    (first (first (second (next uses skips) r)))
+
 -- A DEF IN A LOOP: for i in xs: def f(): a += 1. Its target's name is a use before it is set.
 abbrev nested : Forest
 nested = list 0 (for-i 0 0 (def-f 1 14 (n 7 1 24 30 65535 (n 40 5 24 25 0 leaf (n 21 4 29 30 8 leaf leaf)) leaf) leaf) leaf)
@@ -207,6 +281,28 @@ bare-found = theorem bare-end bare-valid (record { unlike = tt; looped = tt }) .
   def = refl;
   wants = refl;
 }) bare-run
+
+-- A RETURN IN A LOOP: def f(): (for i in xs: return); return 1
+abbrev leaving-kids : Forest
+leaving-kids = n 40 6 4 5 2 leaf (n 8 1 10 80 65535 (for-i 0 10 (bare-of 4 1 24 leaf) (returns-one 0 70 leaf)) leaf)
+
+abbrev leaving : Forest
+leaving = list 0 (n 12 0 0 80 65535 leaving-kids leaf)
+
+leaving-valid : T (valid leaving)
+unfolding valid root-fits fitting kids-fit all-stand all-filled many in-order in-pairs for-first classOf slotOf
+leaving-valid = tt
+
+leaving-run : Run (def-body is-fail leaving-kids) nobody (by (bare (spot 24 30 65535))) (hold (spot 14 15 3) nobody)
+leaving-run = next skips (cut (cut (next (next uses skips) (away tt
+    (next (next skips skips) (next (next sets skips) (cut (next skips (returns tt)))))))))
+
+leaving-found : List·Memᴰ (record { code = 7; spot = spot 24 30 2; second = span 0 80; third = span 70 78 }) (findings leaving)
+leaving-found = theorem leaving leaving-valid (record { unlike = tt; looped = tt }) .bare-return (record {
+  there = below at;
+  def = refl;
+  wants = refl;
+}) leaving-run
 
 -- A CALL OF FAIL NEVER FINISHES: def f(): (if c: return 1; else: fail()). No run reaches the end, and the flow list is empty.
 abbrev shut-end : Forest
@@ -305,3 +401,47 @@ swapped =
 
 swapped-list : findings swapped ≡ plainly 9 (spot 26 32 0) ∷ plainly 9 (spot 12 18 0) ∷ []
 swapped-list = refl
+
+-- A FILE'S BYTES: 01's for i in xs with print(a), a = 1 inside (Known). It is judged valid, its tree meets the premises, a run reaches
+-- the use of a in the first round, and so the use is told; under 6, as the list shows.
+pub bytes-valid : judged looped-file ≡ Valid (record { nodes = 12; values = 5; names = 4; globals = 65535; rest = 228 })
+unfolding judged checks factsOf first-of-places u16At u32At nodeCount valueCount globalCount kindAt roleAt sizeAt beginAt endAt valueAt lastAt spotAt headAt forestIn forestOf treeOf offset formed precedes wrong-value wrong-global parentIn parentOf limitOf known wrong-node depthIn depthOf too-deep classOf slotOf all-stand many all-filled in-pairs for-first in-order kids-fit rootOk wrong-children
+bytes-valid = refl
+
+-- its tree, drawn
+abbrev drawn : Forest
+drawn = n 8 0 0 32 65535 (n 11 0 0 31 65535 (n 40 5 4 5 1 leaf (n 20 4 9 11 2 leaf (n 8 1 15 31 65535
+    (n 5 0 15 23 65535 (n 23 4 15 23 65535 (n 20 7 15 20 3 leaf (n 20 0 21 22 0 leaf leaf)) leaf)
+    (n 6 0 26 31 65535 (n 40 5 26 27 0 leaf (n 21 4 30 31 4 leaf leaf)) leaf)) leaf))) leaf) leaf
+
+bytes-tree : treeOf looped-file ≡ drawn
+unfolding u16At u32At nodeCount valueCount kindAt roleAt sizeAt beginAt endAt valueAt spotAt headAt forestIn forestOf treeOf
+bytes-tree = refl
+
+pub bytes-premises : Premises (treeOf looped-file)
+bytes-premises = subst Premises (sym bytes-tree) (record { unlike = tt; looped = tt })
+
+-- whatever fail is
+drawn-reached : (p : ℕ → Bool) → Reach (spot 21 22 0) (body p drawn) nobody
+drawn-reached p = first (first (second (next uses skips) (now (second (next skips skips) (second (next sets skips)
+    (first (first (first (first (second uses (first (here tt))))))))))))
+
+drawn-own : T (own 0 (body (spells (tableOf looped-file) fail-name) drawn))
+unfolding u16At nodeCount valueCount
+drawn-own = tt
+
+pub bytes-reached : Reach (spot 21 22 0) (body (spells (tableOf looped-file) fail-name) (treeOf looped-file)) nobody
+bytes-reached = subst (λ (f : Forest). Reach (spot 21 22 0) (body (spells (tableOf looped-file) fail-name) f) nobody) (sym bytes-tree)
+    (drawn-reached (spells (tableOf looped-file) fail-name))
+
+bytes-own : T (own 0 (body (spells (tableOf looped-file) fail-name) (treeOf looped-file)))
+bytes-own = subst (λ (f : Forest). T (own 0 (body (spells (tableOf looped-file) fail-name) f))) (sym bytes-tree)
+    drawn-own
+
+pub bytes-told : Told (spot 21 22 0) (names-list looped-file)
+bytes-told = the-demand looped-file (record { nodes = 12; values = 5; names = 4; globals = 65535; rest = 228 }) bytes-valid bytes-premises
+    .unset of-module (spot 21 22 0) bytes-own bytes-reached
+
+pub bytes-list : names-list looped-file ≡ named-at 6 (spot 21 22 0) ∷ []
+unfolding u16At u32At nodeCount valueCount kindAt roleAt sizeAt beginAt endAt valueAt spotAt headAt forestIn forestOf treeOf globalCount offset names-list
+bytes-list = refl

@@ -10,8 +10,8 @@ use native.Mathlib.Nat.{zero-add}
 use Rattle.tree.specs.declared.Mode.{Mode}
 use Rattle.tree.specs.Forest.{treeOf}
 use Rattle.rules.specs.Record.{Rec}
-use Rattle.rules.specs.Joined.{lint-list, count-of, tally-of, no-tally, one-more, raise, raise-all}
-use Rattle.rules.specs.Marks.{nodes}
+use Rattle.rules.specs.Joined.{lint-list, codes, numbers, count-of, tally-of, no-tally, one-more, raise, raise-all}
+use Rattle.rules.specs.code.Marks.{nodes}
 use Rattle.rules.proofs.Few.{lint-few}
 use Rattle.rules.proofs.Bools.{so}
 
@@ -95,27 +95,23 @@ alike (x ∷ l) (y ∷ m) e f =
     let q : l ≡ m = alike l m (omega arith) (λ k h. f (suc k) (omega arith)) in
     λ i. p i ∷ q i
 
-abbrev from : ℕ → ℕ → List ℕ
-from zero c = []
-from (suc n) c = c ∷ from n (suc c)
-
-from-at : (f : ℕ → ℕ) (n c k : ℕ) → k < n → getD (map f (from n c)) k 0 ≡ f (c + k)
-from-at f zero c k h = absurd (omega arith)
-from-at f (suc n) c zero h = let e : c ≡ c + 0 = omega arith in ap f e
-from-at f (suc n) c (suc k) h =
+numbers-at : (f : ℕ → ℕ) (n c k : ℕ) → k < n → getD (map f (numbers n c)) k 0 ≡ f (c + k)
+numbers-at f zero c k h = absurd (omega arith)
+numbers-at f (suc n) c zero h = let e : c ≡ c + 0 = omega arith in ap f e
+numbers-at f (suc n) c (suc k) h =
     let e : suc c + k ≡ c + suc k = omega arith in
-    from-at f n (suc c) k (omega arith) ∙ ap f e
+    numbers-at f n (suc c) k (omega arith) ∙ ap f e
 
-tally-at : (rs : List Rec) (k : ℕ) → k < 17 → getD (tally-of rs) k 0 ≡ count-of (suc k) rs
-tally-at rs k h = let e : 1 + k ≡ suc k = omega arith in from-at (λ c. count-of c rs) 17 1 k h ∙ ap (λ (c : ℕ). count-of c rs) e
+tally-at : (rs : List Rec) (k : ℕ) → k < codes → getD (tally-of rs) k 0 ≡ count-of (suc k) rs
+tally-at rs k h = let e : 1 + k ≡ suc k = omega arith in numbers-at (λ c. count-of c rs) codes 1 k h ∙ ap (λ (c : ℕ). count-of c rs) e
 
 -- THE TALLY of a list, raised from none
 pub tally-raised : (rs : List Rec) → length rs ≤ 18446744073709551615 → raise-all rs no-tally ≡ tally-of rs
 tally-raised rs h =
-    let z : length (raise-all rs no-tally) ≡ 17 = length-raise-all rs no-tally in
+    let z : length (raise-all rs no-tally) ≡ codes = length-raise-all rs no-tally in
     alike (raise-all rs no-tally) (tally-of rs) z (λ k l.
-    let m : k < 17 = omega (arith, z, l) in
-    let n : getD no-tally k 0 ≡ 0 = getD-replicate 17 k 0 0 m in
+    let m : k < codes = omega (arith, z, l) in
+    let n : getD no-tally k 0 ≡ 0 = getD-replicate codes k 0 0 m in
     counted rs no-tally k m (omega (arith, n, h)) ∙ ap (λ (x : ℕ). x + count-of (suc k) rs) n ∙ zero-add (count-of (suc k) rs)
     ∙ sym (tally-at rs k m))
 

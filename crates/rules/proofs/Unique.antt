@@ -7,9 +7,9 @@ use mathlib.Core.List.{[], _∷_}
 use mathlib.Core.Logic.{_⊎_, inl, inr}
 use lib.Dec.{eqb, T, eqb→eq}
 use Rattle.tree.specs.Forest.{Spot, Head, Forest, Forest.none as leaf, node}
-use Rattle.rules.specs.Order.{case, Form, form-of, fail-called, Cmd, fails, skip, _⨟_, use-of, set-of, stop, branch, loop, scope, Want, of-role, every, first-over, first-bound, clauses, picked, part, takes, binds, uses, Bind, one, several, nothing, bind-of, bind-part, use-part}
+use Rattle.rules.specs.Order.{Form, form-of, fail-called, Cmd, fails, skip, _⨟_, use-of, set-of, stop, branch, loop, scope, Want, of-role, every, first-over, first-bound, clauses, picked, part, takes, binds, uses, Bind, one, several, nothing, bind-of, bind-part, use-part}
 use Rattle.rules.specs.Names.{same}
-use Rattle.rules.proofs.Look.{Link, linked}
+use Rattle.rules.proofs.Look.{Link, linked, case}
 use Rattle.rules.proofs.Bools.{and-left, and-right}
 
 -- how many nodes that hold a name stand at s: identifiers, and what binds

@@ -9,19 +9,21 @@ use native.Mathlib.Omega.{arith}
 use native.Mathlib.Decide.{decLt}
 use lib.Dec.{le→leb, eqb, leb, T, eqb→eq, leb→le, not-T}
 use Rattle.tree.specs.Forest.{Spot, Head, Forest, Forest.none as leaf, node}
-use Rattle.rules.specs.Order.{case, Form, forms, look, form-of, Cmd, nothing, bindings, bind-of}
+use Rattle.rules.specs.Visit.{look}
+use Rattle.rules.specs.Order.{Form, forms, form-of, Cmd, nothing, bindings, bind-of}
 use Rattle.rules.specs.Names.{names, same, among}
 use Rattle.tree.specs.Bytes.{pick}
-use Rattle.tree.specs.Children.{classOf, inClass, slotOf}
-use Rattle.tree.specs.Shape.{all-stand, fitting, root-fits, valid}
+use Rattle.tree.specs.Children.{classOf, inClass, slotOf, all-stand}
+use Rattle.tree.specs.code.Shape.{fitting, root-fits, valid}
 use Rattle.tree.proofs.Classes.{slot-so, slot-role, kinds, class-range}
 use Rattle.tree.proofs.Shape.{valid-root, valid-fits, fits-here, fits-kids, fits-rest, fit-stand, stand-here, stand-rest}
 use Rattle.rules.proofs.Bools.{or-cases, and-left, and-right, nor-both, nor-left, nor-right, or-other, never, or-left, or-right, both, implies, decide, imply}
 use Rattle.rules.proofs.Unique.{hit, ident-hit, bind-hit, count, one-each, params, params-of, shaped, me, only}
 use Rattle.rules.proofs.Demand.{is-def, may-hold, has-def, kids-placed, placed, roots, Unique, module-uses, def-uses}
-use Rattle.rules.proofs.Look.{look-so, look-all}
+use Rattle.rules.proofs.Look.{look-so, look-all, case}
 use Rattle.rules.specs.Runs.{Body, of-module, of-def, nobody, Reach, own}
-use Rattle.rules.specs.Premises.{holds-name, name-spots, distinct, names-apart}
+use Rattle.rules.specs.Premises.{name-spots, distinct, names-apart}
+use Rattle.tree.specs.Nodes.{holds-name}
 use Rattle.rules.proofs.Flag.{good}
 use Rattle.rules.proofs.Spots.{same-sound}
 

@@ -6,13 +6,14 @@ use mathlib.Core.Bool.{Bool, true, false, not, cond}
 use mathlib.Core.List.{[], _∷_}
 use lib.Dec.{eqb, leb, T, leb→le}
 use Rattle.tree.specs.Forest.{Spot, Head, Forest, Forest.none as leaf, node}
-use Rattle.rules.specs.Order.{case, Form, form-of, has, fail-called, Stop, Sort, Cmd, breaks, bare, valued, fails, skip, _⨟_, use-of, set-of, stop, branch, loop, scope, Bind, one, several, nothing, bind-of, bind-part, use-part, binds, uses, Want, of-role, every, first-over, first-bound, clauses, picked, part, takes, body, broken-by}
+use Rattle.rules.specs.Visit.{has}
+use Rattle.rules.specs.Order.{Form, form-of, fail-called, Stop, Sort, Cmd, breaks, bare, valued, fails, skip, _⨟_, use-of, set-of, stop, branch, loop, scope, Bind, one, several, nothing, bind-of, bind-part, use-part, binds, uses, Want, of-role, every, first-over, first-bound, clauses, picked, part, takes, body, broken-by}
 use Rattle.rules.specs.Names.{same}
 use Rattle.rules.proofs.Spots.{same-sound, same-exact}
 use Rattle.rules.proofs.Bounds.{gather, most, way, again, times, times-le, times-add, tour-way, no-set, use-key, whole, unbound-laws}
-use Rattle.rules.specs.Marks.{total, start, Every, unbound-in, nodes}
+use Rattle.rules.specs.code.Marks.{total, start, Every, unbound-in, nodes}
 use Rattle.rules.proofs.Nodes.{role, roles-le, once-two, once-again}
-use Rattle.rules.proofs.Look.{Link, linked}
+use Rattle.rules.proofs.Look.{Link, linked, case}
 use Rattle.rules.proofs.Unique.{only}
 
 abbrev ends : Cmd → ℕ

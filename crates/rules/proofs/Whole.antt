@@ -8,7 +8,7 @@ use Rattle.tree.specs.Forest.{Forest, Forest.none as leaf, node, treeOf}
 use Rattle.tree.specs.Table.{tableOf, spells, underscored}
 use Rattle.tree.specs.declared.Mode.{Mode}
 use Rattle.tree.specs.Judge.{judged}
-use Rattle.tree.specs.Shape.{count}
+use Rattle.tree.specs.code.Shape.{count}
 use Rattle.tree.specs.declared.Facts.{Facts}
 use Rattle.tree.specs.declared.Judged.the-variants.{Valid}
 use Rattle.tree.proofs.Whole.{sound}
@@ -17,7 +17,7 @@ use Rattle.rules.specs.Order.{body, fail-name}
 use Rattle.rules.specs.Joined.{lint-list, raise-all, no-tally, tally-of}
 use Rattle.rules.specs.Premises.{Premises}
 use Rattle.rules.specs.Letter.{Demand3-of, The-demand}
-use Rattle.rules.specs.Marks.{nodes, Every, start}
+use Rattle.rules.specs.code.Marks.{nodes, Every, start}
 use Rattle.rules.proofs.Demand3.{demand3-of}
 use Rattle.rules.proofs.Seven.{Capacity, capacity}
 use Rattle.rules.proofs.Few.{lint-few}

@@ -4,11 +4,10 @@ use mathlib.Core.Path.{_≡_}
 use mathlib.Core.List.{List, [], _∷_}
 use mathlib.Core.Option.{none, some}
 use lib.ListN.{length, drop, getD}
-use Rattle.tree.specs.Judge.{judged}
-use Rattle.rules.specs.Record.{Rec}
+use Rattle.rules.specs.Record.{Rec, width}
 use Rattle.rules.specs.Joined.{no-tally, raise-all}
-use Rattle.rules.specs.Outcome.{numberOf, refusal, short, cleared, work-by}
-use Rattle.rules.specs.Calls.{Done-with-work}
+use Rattle.rules.specs.Outcome.{numberOf, refusal, cleared, work-by}
+use Rattle.rules.specs.Calls.{Done-with-work, checks-with-work}
 use Rattle.rules.specs.declared.Refusal.{Refusal}
 use Rattle.rules.specs.declared.Outcome.the-variants.{Listed, Refused}
 use Rattle.rules.specs.declared.Answer.{Answer}
@@ -26,26 +25,26 @@ record-in o =
 -- the first n records of the answer room
 abbrev pub records-in : ℕ → List ℕ → List Rec
 records-in zero o = []
-records-in (suc n) o = record-in o ∷ records-in n (drop 8 o)
+records-in (suc n) o = record-in o ∷ records-in n (drop width o)
 
 -- an answer, with the answer room and the work room afterwards, as a call's promise has them
 abbrev pub Gives : Done-with-work → Answer → List ℕ → List ℕ → Type 0
-Gives d a room work = (a ≡ d .answer) × (room ≡ d .room) × (work ≡ d .work)
+Gives d a room work = record { answer = a; room = room; work = work } ≡ d
 
 -- The list rs of the file t: 01's table gives no refusal; the list stands in the answer room, in its order; the counts are raised by it; "answer room past the last record"
 -- stays; "the first 32,768 words of work room are zero".
 pub record Lists (rs : List Rec) (t tally work room : List ℕ) (a : Answer) (room′ work′ : List ℕ) : Type 0 where
-  pub none-given : refusal (judged t) (short work) (length rs) (length room) ≡ none
+  pub none-given : refusal (checks-with-work rs t work room) ≡ none
   pub outcome : a .outcome ≡ Listed (length rs)
   pub counts : a .tally ≡ raise-all rs tally
   pub records : records-in (length rs) room′ ≡ rs
-  pub past : drop (8 * length rs) room′ ≡ drop (8 * length rs) room
+  pub past : drop (width * length rs) room′ ≡ drop (width * length rs) room
   pub as-long : length room′ ≡ length room
   pub cleared-work : work′ ≡ cleared work
 
 -- One numbered refusal, the one that 01's table gives for the file t with the list rs: "A refusal writes no answer; its tally is all zero", and the work room is as 01 says.
 pub record Refuses (rs : List Rec) (t : List ℕ) (why : Refusal) (work room : List ℕ) (a : Answer) (room′ work′ : List ℕ) : Type 0 where
-  pub given : refusal (judged t) (short work) (length rs) (length room) ≡ some why
+  pub given : refusal (checks-with-work rs t work room) ≡ some why
   pub outcome : a .outcome ≡ Refused why
   pub numbered : (1 ≤ numberOf why) × (numberOf why ≤ 11)
   pub no-counts : a .tally ≡ no-tally

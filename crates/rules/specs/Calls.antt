@@ -1,7 +1,8 @@
--- "Every public function promises its result, records and every lent word for each input": which list each call gives, and so
--- what it answers and leaves, by the bytes t and the words that it is lent alone. Assumes nothing.
-use mathlib.Core.List.{List}
+-- "Every public function promises its result, records and every lent word for each input": which checks each call makes and which
+-- list it gives, and so what it answers and leaves, by the bytes t and the words that it is lent alone. Assumes nothing.
 use Prim.Native.Nat.{ℕ}
+use mathlib.Core.List.{List, [], _∷_}
+use lib.ListN.{length}
 use Rattle.tree.specs.Judge.{judged}
 use Rattle.tree.specs.declared.Mode.{Mode}
 use Rattle.rules.specs.Record.{Rec}
@@ -10,29 +11,36 @@ use Rattle.rules.specs.Flow.{flow-list}
 use Rattle.rules.specs.Incompatible.{incompatible-list}
 use Rattle.rules.specs.Dubious.{dubious-list}
 use Rattle.rules.specs.Joined.{lint-list, no-tally}
-use Rattle.rules.specs.Outcome.{answered, room-after, names-answered, names-room-after, names-work-after}
+use Rattle.rules.specs.Outcome.{Check, the-file, work-room, answer-room, refusal, answer-by, room-by, work-by}
 use Rattle.rules.specs.declared.Answer.{Answer}
 
--- what stands in the lent words afterwards, beside the answer
+-- the answer, and what stands in the answer room afterwards
 pub record Done : Type 0 where
   pub answer : Answer
   pub room : List ℕ
 
+-- the checks of a call that gives the list rs of the file t
+abbrev pub checks : List Rec → List ℕ → List ℕ → List Check
+checks rs t room = the-file (judged t) ∷ answer-room (length rs) (length room) ∷ []
+
+-- such a call; tally: the counts so far
+unfoldable pub done : List Rec → List ℕ → List ℕ → List ℕ → Done
+done rs t room tally =
+    let why = refusal (checks rs t room) in record { answer = answer-by why rs tally; room = room-by why rs room }
+
+-- a call that runs names: the same, with its work room
 pub record Done-with-work : Type 0 where
   pub answer : Answer
   pub room : List ℕ
   pub work : List ℕ
 
--- a call that gives this list of the file t; tally: the counts so far
-abbrev pub done : List Rec → List ℕ → List ℕ → List ℕ → Done
-done rs t room tally = record { answer = answered (judged t) rs room tally; room = room-after (judged t) rs room }
+abbrev pub checks-with-work : List Rec → List ℕ → List ℕ → List ℕ → List Check
+checks-with-work rs t work room = the-file (judged t) ∷ work-room (length work) ∷ answer-room (length rs) (length room) ∷ []
 
-abbrev pub done-with-work : List Rec → List ℕ → List ℕ → List ℕ → List ℕ → Done-with-work
-done-with-work rs t work room tally = record {
-  answer = names-answered (judged t) rs work room tally;
-  room = names-room-after (judged t) rs work room;
-  work = names-work-after (judged t) rs work room;
-}
+unfoldable pub done-with-work : List Rec → List ℕ → List ℕ → List ℕ → List ℕ → Done-with-work
+done-with-work rs t work room tally =
+    let why = refusal (checks-with-work rs t work room) in
+    record { answer = answer-by why rs tally; room = room-by why rs room; work = work-by why work }
 
 abbrev pub names-call : List ℕ → List ℕ → List ℕ → List ℕ → Done-with-work
 names-call t work room tally = done-with-work (names-list t) t work room tally

@@ -1,20 +1,15 @@
 -- The seventeen codes: 01's severity of each, and the short name that the Rust gives it. Assumes nothing.
 use Prim.Native.Nat.{ℕ}
-use Prim.Native.Char.{code}
-use Prim.Native.String.{String, [] as end, _∷_ as _then_}
+use Prim.Native.String.{String}
 use mathlib.Core.Bool.{Bool, true, false, _||_}
 use mathlib.Core.List.{List, [], _∷_}
 use lib.Dec.{eqb}
-use Rattle.rules.specs.Order.{look}
+use Rattle.tree.specs.Bytes.{ascii}
+use Rattle.rules.specs.Visit.{look}
 
 -- "Of all codes 1, 2, 3, 5, 10 and 11 have severity disabled, the rest warning."
 abbrev pub disabled : ℕ → Bool
 disabled c = eqb c 1 || (eqb c 2 || (eqb c 3 || (eqb c 5 || (eqb c 10 || eqb c 11))))
-
--- the bytes of an ASCII text
-abbrev pub ascii : String → List ℕ
-ascii end = []
-ascii (c then s) = code c ∷ ascii s
 
 -- `short_name` of names.rs, flow.rs, incompatible.rs and dubious.rs
 abbrev pub short-names : List (ℕ × String)

@@ -8,8 +8,7 @@ use Rattle.tree.specs.declared.Mode.{Mode}
 use Rattle.tree.specs.Keys.{Likeness, different, same-form, same-number, like}
 use Rattle.tree.specs.Table.{tableOf, at}
 use Rattle.rules.specs.Record.{Rec, Span, no-span, span-of, with-value, named-at, listed}
-use Rattle.rules.specs.Flow.{place}
-use Rattle.rules.specs.Incompatible.{each, kind-at}
+use Rattle.rules.specs.Visit.{spot-at, each, kind-at}
 
 -- "Keys: identifiers and literals": a dict's, in file order
 abbrev pub keys : Forest → List Spot
@@ -45,7 +44,7 @@ module _ (test : ℕ → ℕ → Likeness) (reason : Likeness → Span) where
 
 -- "17 identifier as statement"
 abbrev pub idle-at : Head → Forest → List Rec
-idle-at h k = listed (eqb 5 (h .kind) && eqb 20 (kind-at 4 k)) (named-at 17 (place 4 k) ∷ []) []
+idle-at h k = listed (eqb 5 (h .kind) && eqb 20 (kind-at 4 k)) (named-at 17 (spot-at 4 k) ∷ []) []
 
 abbrev pub dubious : (ℕ → ℕ → Likeness) → (Likeness → Span) → Forest → List Rec
 dubious test reason f = each (dict-at test reason) f ++ each idle-at f

@@ -1,24 +1,17 @@
 -- 01, "Flow": "Five walks in order: returns, reachable, redundant, loads, effect." Assumes nothing.
+-- What a walk does with a node goes by its kind, n: 1 break, 2 continue, 4 return, 5 expression, 8 statements, 9 if, 10 if-else,
+-- 11 for, 12 def, 13 load; down: the same walk of its children.
 use Prim.Native.Nat.{ℕ}
 use mathlib.Core.Bool.{Bool, true, false, cond, _&&_, _||_, not}
 use mathlib.Core.List.{List, [], _∷_, _++_}
 use mathlib.Core.Option.{Option, none, some}
 use lib.Dec.{eqb}
+use Rattle.tree.specs.Bytes.{ascii}
 use Rattle.tree.specs.Forest.{Spot, Head, Forest, Forest.none as leaf, node, treeOf}
 use Rattle.tree.specs.Table.{tableOf, spells, a-string}
-use Rattle.rules.specs.Record.{Rec, no-span, span-of, with-value, plainly, listed}
-use Rattle.rules.specs.Order.{Form, look, case, form-of, has, fail-called, fail-name}
-
--- the first node of a role: its spot
-abbrev pub place : ℕ → Forest → Spot
-place r leaf = record { begin = 0; end = 0; value = 0 }
-place r (node h k s) = elim (eqb r (h .role)) [ true ↦ h .spot | false ↦ place r s ]
-
--- of nodes of a role, what the last one gives; more: whether a later one has that role
-abbrev pub last-of {ℓ} : {A : Type ℓ} → Bool → Bool → A → A → A
-last-of false more here on = on
-last-of true true here on = on
-last-of true false here on = here
+use Rattle.rules.specs.Record.{Rec, no-span, span-of, with-value, plainly, listed, or-else}
+use Rattle.rules.specs.Visit.{look, each, has, spot-at, last-of}
+use Rattle.rules.specs.Order.{fail-called, fail-name}
 
 -- ---- returns: 8 and 7
 
@@ -37,26 +30,17 @@ wanted the-rest r = not (eqb 1 r)
 
 -- "outside nested defs": the returns, in file order; down: those of the children. (What is not a nested def's body has no
 -- statement in it.)
-abbrev pub returns-rows : List (Form × (Head → Forest → (Which → List Return) → List Return))
-returns-rows =
-    (Form.returning, λ h k down. record { spot = h .spot; valued = has 4 k } ∷ down everything)
-    ∷ (Form.def, λ h k down. down the-rest)
-    ∷ []
-
-abbrev pub returns-part : Form → Head → Forest → (Which → List Return) → List Return
-returns-part z h k down = case z returns-rows (λ h k down. down everything) h k down
+abbrev pub returns-part : ℕ → Head → Forest → (Which → List Return) → List Return
+returns-part n h k down =
+    look n ((4, record { spot = h .spot; valued = has 4 k } ∷ down everything) ∷ (12, down the-rest) ∷ []) (down everything)
 
 abbrev pub returns : Which → Forest → List Return
 returns w leaf = []
-returns w (node h k s) = listed (wanted w (h .role)) (returns-part (form-of h) h k (λ v. returns v k)) (returns w s)
+returns w (node h k s) = listed (wanted w (h .role)) (returns-part (h .kind) h k (λ v. returns v k)) (returns w s)
 
 abbrev pub first-valued : List Return → Option Spot
 first-valued [] = none
 first-valued (r ∷ rs) = elim (r .valued) [ true ↦ some (r .spot) | false ↦ first-valued rs ]
-
-abbrev pub or-else : Option Spot → Option Spot → Option Spot
-or-else none b = b
-or-else (some a) b = some a
 
 module _ (is-none : ℕ → Bool) where
   -- "a return type other than the identifier None"
@@ -75,20 +59,12 @@ module _ (is-none : ℕ → Bool) where
 
 module _ (is-fail : ℕ → Bool) where
   -- "the body ends surely (a return or fail statement, a list whose last member does, an if-else whose sides both do)"
-  abbrev pub ends-rows : List (Form × (Forest → (ℕ → Bool) → Bool))
-  ends-rows =
-      (Form.returning, λ k down. true)
-      ∷ (Form.expression, λ k down. fail-called is-fail k)
-      ∷ (Form.statements, λ k down. down 0)
-      ∷ (Form.if-else, λ k down. down 1 && down 2)
-      ∷ []
-
-  abbrev pub ends-part : Form → Forest → (ℕ → Bool) → Bool
-  ends-part z k down = case z ends-rows (λ k down. false) k down
+  abbrev pub ends-part : ℕ → Forest → (ℕ → Bool) → Bool
+  ends-part n k down = look n ((4, true) ∷ (5, fail-called is-fail k) ∷ (8, down 0) ∷ (10, down 1 && down 2) ∷ []) false
 
   abbrev pub ends : ℕ → Forest → Bool
   ends r leaf = false
-  ends r (node h k s) = last-of (eqb r (h .role)) (has r s) (ends-part (form-of h) k (λ v. ends v k)) (ends r s)
+  ends r (node h k s) = last-of (eqb r (h .role)) (has r s) (ends-part (h .kind) k (λ v. ends v k)) (ends r s)
 
 -- "8 missing return (reason second; value likewise)"
 abbrev pub missing : Head → Spot → Spot → Rec
@@ -105,22 +81,18 @@ bare-recs h name why [] = []
 bare-recs h name why (r ∷ rs) = listed (not (r .valued)) (missing-expression h name why (r .spot) ∷ []) (bare-recs h name why rs)
 
 module _ (is-fail is-none : ℕ → Bool) where
-  -- "Then 8 at the def unless the body ends surely, then 7 for each bare return outside nested defs."
+  -- "Then 8 at the def unless the body ends surely .., then 7 for each bare return outside nested defs."
   abbrev pub check-for : Head → Forest → Option Spot → List Rec
   check-for h k none = []
   check-for h k (some why) =
-      listed (not (ends is-fail 1 k)) (missing h (place 6 k) why ∷ []) (bare-recs h (place 6 k) why (returns the-body k))
+      listed (not (ends is-fail 1 k)) (missing h (spot-at 6 k) why ∷ []) (bare-recs h (spot-at 6 k) why (returns the-body k))
 
-  abbrev pub check-rows : List (Form × (Head → Forest → List Rec))
-  check-rows = (Form.def, λ h k. check-for h k (reason is-none k)) ∷ []
-
-  abbrev pub check : Form → Head → Forest → List Rec
-  check z h k = case z check-rows (λ h k. []) h k
+  abbrev pub check : ℕ → Head → Forest → List Rec
+  check n h k = look n ((12, check-for h k (reason is-none k)) ∷ []) []
 
   -- each def before what is below it
   abbrev pub returns-walk : Forest → List Rec
-  returns-walk leaf = []
-  returns-walk (node h k s) = check (form-of h) h k ++ (returns-walk k ++ returns-walk s)
+  returns-walk f = each (λ h k. check (h .kind) h k) f
 
 -- ---- reachable: 9
 
@@ -130,7 +102,7 @@ pub record Reached : Type 0 where
 
 -- statements taken as a list's members, each by itself, or the one of a role
 pub data Course : Type 0 where
-  in-list each : Course
+  in-list one-by-one : Course
   only : ℕ → Course
 
 abbrev pub both : Reached → Reached → Reached
@@ -149,57 +121,42 @@ after-stop (node h k s) = plainly 9 (h .spot) ∷ []
 
 module _ (is-fail : ℕ → Bool) where
   -- "Break, continue, return and a fail statement abort; so does a list once a member does, and an if-else whose sides both do."
-  abbrev pub reach-rows : List (Form × (Forest → (Course → Reached) → Reached))
-  reach-rows =
-      (Form.breaking, λ k down. stopping true)
-      ∷ (Form.returning, λ k down. stopping true)
-      ∷ (Form.expression, λ k down. stopping (fail-called is-fail k))
-      ∷ (Form.statements, λ k down. down in-list)
-      ∷ (Form.if-else, λ k down. both (down (only 1)) (down (only 2)))
-      ∷ []
+  abbrev pub reached-part : ℕ → Forest → (Course → Reached) → Reached
+  reached-part n k down =
+      look n ((1, stopping true) ∷ (2, stopping true) ∷ (4, stopping true) ∷ (5, stopping (fail-called is-fail k)) ∷ (8, down in-list)
+      ∷ (10, both (down (only 1)) (down (only 2))) ∷ []) (on-through (down one-by-one))
 
-  abbrev pub reach-part : Form → Forest → (Course → Reached) → Reached
-  reach-part z k down = case z reach-rows (λ k down. on-through (down each)) k down
-
-  abbrev pub reach : Course → Forest → Reached
-  reach m leaf = stopping false
-  reach m (node h k s) =
+  abbrev pub reached : Course → Forest → Reached
+  reached m leaf = stopping false
+  reached m (node h k s) =
       elim m [
-        | in-list ↦ (let a = reach-part (form-of h) k (λ v. reach v k) in elim (a .stops) [
+        | in-list ↦ (let a = reached-part (h .kind) k (λ v. reached v k) in elim (a .stops) [
           | true ↦ record { stops = true; recs = a .recs ++ after-stop s }
-          | false ↦ (let b = reach in-list s in record { stops = b .stops; recs = a .recs ++ b .recs })
+          | false ↦ (let b = reached in-list s in record { stops = b .stops; recs = a .recs ++ b .recs })
         ])
-        | each ↦ (let a = reach-part (form-of h) k (λ v. reach v k) in record { stops = false; recs = a .recs ++ reach each s .recs })
-        | only r ↦ elim (eqb r (h .role)) [ true ↦ reach-part (form-of h) k (λ v. reach v k) | false ↦ reach (only r) s ]
+        | one-by-one ↦ (let a = reached-part (h .kind) k (λ v. reached v k) in record { stops = false; recs = a .recs ++ reached one-by-one s .recs })
+        | only r ↦ elim (eqb r (h .role)) [ true ↦ reached-part (h .kind) k (λ v. reached v k) | false ↦ reached (only r) s ]
       ]
 
 -- ---- redundant: 10 and 11
 
 -- "10 for a bare return last in a def's body, 11 for a continue last in a for's; last goes through lists, if and if-else only";
 -- loops: whether the body is a for's
-abbrev pub tail-rows : List (Form × (Bool → Head → Forest → (ℕ → List Rec) → List Rec))
-tail-rows =
-    (Form.breaking, λ loops h k down. listed (loops && eqb 2 (h .kind)) (plainly 11 (h .spot) ∷ []) [])
-    ∷ (Form.returning, λ loops h k down. listed (not loops && not (has 4 k)) (plainly 10 (h .spot) ∷ []) [])
-    ∷ (Form.statements, λ loops h k down. down 0)
-    ∷ (Form.if, λ loops h k down. down 1)
-    ∷ (Form.if-else, λ loops h k down. down 1 ++ down 2)
-    ∷ []
-
-abbrev pub tail-part : Form → Bool → Head → Forest → (ℕ → List Rec) → List Rec
-tail-part z loops h k down = case z tail-rows (λ loops h k down. []) loops h k down
+abbrev pub tail-part : ℕ → Bool → Head → Forest → (ℕ → List Rec) → List Rec
+tail-part n loops h k down =
+    look n ((2, listed loops (plainly 11 (h .spot) ∷ []) []) ∷ (4, listed (not loops && not (has 4 k)) (plainly 10 (h .spot) ∷ []) [])
+    ∷ (8, down 0) ∷ (9, down 1) ∷ (10, down 1 ++ down 2) ∷ []) []
 
 abbrev pub tail : Bool → ℕ → Forest → List Rec
 tail loops r leaf = []
 tail loops r (node h k s) =
-    last-of (eqb r (h .role)) (has r s) (tail-part (form-of h) loops h k (λ v. tail loops v k)) (tail loops r s)
+    last-of (eqb r (h .role)) (has r s) (tail-part (h .kind) loops h k (λ v. tail loops v k)) (tail loops r s)
 
-abbrev pub redundant-part : Form → Forest → List Rec
-redundant-part z k = case z ((Form.for, tail true 1) ∷ (Form.def, tail false 1) ∷ []) (λ k. []) k
+abbrev pub redundant-part : ℕ → Forest → List Rec
+redundant-part n k = look n ((11, tail true 1 k) ∷ (12, tail false 1 k) ∷ []) []
 
 abbrev pub redundant-walk : Forest → List Rec
-redundant-walk leaf = []
-redundant-walk (node h k s) = redundant-part (form-of h) k ++ (redundant-walk k ++ redundant-walk s)
+redundant-walk f = each (λ h k. redundant-part (h .kind) k) f
 
 -- "The redundant walk starts below the root"
 abbrev pub below-root : Forest → Forest
@@ -219,20 +176,15 @@ module _ (is-string : ℕ → Bool) where
 
   -- "with lists flattened from the root, 12 for a load after anything but loads and string-literal statements";
   -- may: whether a load may still stand here
-  abbrev pub loads-rows : List (Form × (Bool → Head → Forest → (Bool → Loads) → Loads))
-  loads-rows =
-      (Form.expression, λ may h k down. record { may = may && string-stated k; recs = [] })
-      ∷ (Form.statements, λ may h k down. down may)
-      ∷ (Form.load, λ may h k down. record { may = may; recs = listed (not may) (plainly 12 (h .spot) ∷ []) [] })
-      ∷ []
-
-  abbrev pub loads-part : Form → Bool → Head → Forest → (Bool → Loads) → Loads
-  loads-part z may h k down = case z loads-rows (λ may h k down. record { may = false; recs = [] }) may h k down
+  abbrev pub loads-part : ℕ → Bool → Head → Forest → (Bool → Loads) → Loads
+  loads-part n may h k down =
+      look n ((5, record { may = may && string-stated k; recs = [] }) ∷ (8, down may)
+      ∷ (13, record { may = may; recs = listed (not may) (plainly 12 (h .spot) ∷ []) [] }) ∷ []) (record { may = false; recs = [] })
 
   abbrev pub loads : Bool → Forest → Loads
   loads may leaf = record { may = may; recs = [] }
   loads may (node h k s) =
-      let a = loads-part (form-of h) may h k (λ v. loads v k) in
+      let a = loads-part (h .kind) may h k (λ v. loads v k) in
       let b = loads (a .may) s in
       record { may = b .may; recs = a .recs ++ b .recs }
 
@@ -244,13 +196,8 @@ pub data Effect : Type 0 where
 -- "ellipsis, lambdas, and conditionals, tuples, lists and dicts none of whose children has effect"
 abbrev pub effects : List (ℕ × Effect)
 effects =
-    (22, none-effect)
-    ∷ (24, none-effect)
-    ∷ (27, by-children)
-    ∷ (28, by-children)
-    ∷ (29, by-children)
-    ∷ (30, by-children)
-    ∷ []
+    (22, none-effect) ∷ (24, none-effect)
+    ∷ (27, by-children) ∷ (28, by-children) ∷ (29, by-children) ∷ (30, by-children) ∷ []
 
 module _ (is-string : ℕ → Bool) where
   -- whether one of these has effect; "literals but strings" have none
@@ -261,27 +208,23 @@ module _ (is-string : ℕ → Bool) where
       [ some-effect ↦ true | none-effect ↦ false | by-children ↦ effect k ]) || effect s
 
   -- "13, at the expression"
-  abbrev pub effect-rows : List (Form × (Forest → List Rec → List Rec))
-  effect-rows = (Form.expression, λ k down. listed (not (effect k)) (plainly 13 (place 4 k) ∷ []) []) ∷ []
-
-  abbrev pub effect-part : Form → Forest → List Rec → List Rec
-  effect-part z k down = case z effect-rows (λ k down. down) k down
+  abbrev pub effect-part : ℕ → Forest → List Rec → List Rec
+  effect-part n k down = look n ((5, listed (not (effect k)) (plainly 13 (spot-at 4 k) ∷ []) []) ∷ []) down
 
   abbrev pub effect-walk : Forest → List Rec
   effect-walk leaf = []
-  effect-walk (node h k s) = effect-part (form-of h) k (effect-walk k) ++ effect-walk s
+  effect-walk (node h k s) = effect-part (h .kind) k (effect-walk k) ++ effect-walk s
 
 abbrev pub flow : (ℕ → Bool) → (ℕ → Bool) → (ℕ → Bool) → Forest → List Rec
 flow is-fail is-none is-string f =
     returns-walk is-fail is-none f
-    ++ (reach is-fail (only 0) f .recs
+    ++ (reached is-fail (only 0) f .recs
     ++ (redundant-walk (below-root f)
     ++ (loads is-string true f .recs
     ++ effect-walk is-string f)))
 
--- None
 abbrev pub none-name : List ℕ
-none-name = 0x4e ∷ 0x6f ∷ 0x6e ∷ 0x65 ∷ []
+none-name = ascii "None"
 
 -- of a file's bytes
 unfoldable pub flow-list : List ℕ → List Rec

@@ -4,50 +4,33 @@ use mathlib.Core.Bool.{Bool, true, false, cond, _&&_, _||_}
 use mathlib.Core.List.{List, [], _∷_, _++_}
 use mathlib.Core.Option.{Option, none, some}
 use lib.Dec.{eqb}
+use Rattle.tree.specs.Bytes.{ascii}
 use Rattle.tree.specs.Forest.{Spot, Head, Forest, Forest.none as leaf, node, treeOf}
 use Rattle.tree.specs.Values.{Value}
 use Rattle.tree.specs.Table.{tableOf, spells}
 use Rattle.rules.specs.Record.{Rec, no-span, span-of, with-value, named-at, listed}
-use Rattle.rules.specs.Order.{Sort, Sort.load, Sort.assign, Sort.argument, Bind, one, several, nothing, bind-of, look}
-use Rattle.rules.specs.Flow.{place}
-
--- "each node before its children", in file order
-abbrev pub each : (Head → Forest → List Rec) → Forest → List Rec
-each f leaf = []
-each f (node h k s) = f h k ++ (each f k ++ each f s)
-
--- of the first node of a role: its kind (0: there is none), its children; how many have a role
-abbrev pub kind-at : ℕ → Forest → ℕ
-kind-at r leaf = 0
-kind-at r (node h k s) = elim (eqb r (h .role)) [ true ↦ h .kind | false ↦ kind-at r s ]
-
-abbrev pub under : ℕ → Forest → Forest
-under r leaf = leaf
-under r (node h k s) = elim (eqb r (h .role)) [ true ↦ k | false ↦ under r s ]
-
-abbrev pub tally : ℕ → Forest → ℕ
-tally r leaf = 0
-tally r (node h k s) = elim (eqb r (h .role)) [ true ↦ suc (tally r s) | false ↦ tally r s ]
+use Rattle.rules.specs.Visit.{look, each, kind-at, spot-at, under, how-many}
+use Rattle.rules.specs.Order.{Sort, Sort.load, Sort.assign, Sort.argument, Bind, one, several, nothing, bind-of}
 
 -- ---- 14
 
 -- the node of the role r among these is an identifier with such a name
 abbrev pub identifier : ℕ → (ℕ → Bool) → Forest → Bool
-identifier r p k = eqb 20 (kind-at r k) && p (place r k .value)
+identifier r p k = eqb 20 (kind-at r k) && p (spot-at r k .value)
 
 -- "type called with one argument, left of equal or not equal, an identifier bool, tuple, str, list or int right"
 abbrev pub type-check : (ℕ → Bool) → (ℕ → Bool) → Forest → Bool
 type-check is-type names-type k =
     eqb 23 (kind-at 1 k)
     && (identifier 7 is-type (under 1 k)
-    && (eqb 1 (tally 0 (under 1 k))
+    && (eqb 1 (how-many 0 (under 1 k))
     && identifier 2 names-type k))
 
 -- "value is that name"
 abbrev pub check-at : (ℕ → Bool) → (ℕ → Bool) → Head → Forest → List Rec
 check-at is-type names-type h k =
     listed ((eqb 31 (h .kind) || eqb 32 (h .kind)) && type-check is-type names-type k)
-    (named-at 14 (with-value (h .spot) (place 2 k .value)) ∷ []) []
+    (named-at 14 (with-value (h .spot) (spot-at 2 k .value)) ∷ []) []
 
 -- ---- 15
 
@@ -67,13 +50,13 @@ deed-part (one o) s down = defines (is-load o) s ∷ []
 deed-part several s down = down 0
 deed-part nothing s down = []
 
-abbrev pub named : ℕ → Forest → List Deed
-named r leaf = []
-named r (node h k s) = listed (eqb r (h .role)) (deed-part (bind-of h) (h .spot) (λ v. named v k)) (named r s)
+abbrev pub defined-names : ℕ → Forest → List Deed
+defined-names r leaf = []
+defined-names r (node h k s) = listed (eqb r (h .role)) (deed-part (bind-of h) (h .spot) (λ v. defined-names v k)) (defined-names r s)
 
 -- x = x: the target a name, the value the identifier of that name
 abbrev pub self-set : Forest → Bool
-self-set k = eqb 40 (kind-at 5 k) && identifier 4 (eqb (place 5 k .value)) k
+self-set k = eqb 40 (kind-at 5 k) && identifier 4 (eqb (spot-at 5 k .value)) k
 
 -- "Assign, assign-modify, def and load count, under if and for too; not for targets or insides of defs."
 pub data Top : Type 0 where
@@ -81,21 +64,14 @@ pub data Top : Type 0 where
 
 abbrev pub tops : List (ℕ × Top)
 tops =
-    (6, assigning)
-    ∷ (7, modifying)
-    ∷ (12, defining)
-    ∷ (13, loading)
-    ∷ (8, holding)
-    ∷ (9, holding)
-    ∷ (10, holding)
-    ∷ (11, holding)
-    ∷ []
+    (6, assigning) ∷ (7, modifying) ∷ (12, defining) ∷ (13, loading)
+    ∷ (8, holding) ∷ (9, holding) ∷ (10, holding) ∷ (11, holding) ∷ []
 
 abbrev pub top-part : Top → Forest → List Deed → List Deed
-top-part assigning k down = cond (self-set k) (repeats (place 5 k) ∷ []) (named 5 k)
-top-part modifying k down = named 5 k
-top-part defining k down = named 6 k
-top-part loading k down = named 0 k
+top-part assigning k down = cond (self-set k) (repeats (spot-at 5 k) ∷ []) (defined-names 5 k)
+top-part modifying k down = defined-names 5 k
+top-part defining k down = defined-names 6 k
+top-part loading k down = defined-names 0 k
 top-part holding k down = down
 top-part aside k down = []
 
@@ -131,13 +107,13 @@ module _ (free : ℕ → Bool) where
   may-repeat none n = false
   may-repeat (some d) n = d .loaded && free n
 
-  abbrev pub judge : List Deed → List First → List ℕ → List Rec
-  judge [] ds xs = []
-  judge (defines l s ∷ es) ds xs = defined (first-of (s .value) ds) l s ds (λ v. judge es v xs)
-  judge (repeats s ∷ es) ds xs =
+  abbrev pub repeated : List Deed → List First → List ℕ → List Rec
+  repeated [] ds xs = []
+  repeated (defines l s ∷ es) ds xs = defined (first-of (s .value) ds) l s ds (λ v. repeated es v xs)
+  repeated (repeats s ∷ es) ds xs =
       elim (may-repeat (first-of (s .value) ds) (times (s .value) xs)) [
-        | true ↦ judge es ds (s .value ∷ xs)
-        | false ↦ defined (first-of (s .value) ds) false s ds (λ v. judge es v xs)
+        | true ↦ repeated es ds (s .value ∷ xs)
+        | false ↦ defined (first-of (s .value) ds) false s ds (λ v. repeated es v xs)
       ]
 
 -- "x = x, where the first definition of x is a load, is free once"
@@ -145,21 +121,13 @@ abbrev pub once : ℕ → Bool
 once n = eqb n 0
 
 abbrev pub incompatible : (ℕ → Bool) → (ℕ → Bool) → (ℕ → Bool) → Forest → List Rec
-incompatible free is-type names-type f = each (check-at is-type names-type) f ++ judge free (deeds f) [] []
+incompatible free is-type names-type f = each (check-at is-type names-type) f ++ repeated free (deeds f) [] []
 
--- type
 abbrev pub type-name : List ℕ
-type-name = 0x74 ∷ 0x79 ∷ 0x70 ∷ 0x65 ∷ []
+type-name = ascii "type"
 
--- bool, tuple, str, list, int
 abbrev pub five-types : List (List ℕ)
-five-types =
-    (0x62 ∷ 0x6f ∷ 0x6f ∷ 0x6c ∷ [])
-    ∷ (0x74 ∷ 0x75 ∷ 0x70 ∷ 0x6c ∷ 0x65 ∷ [])
-    ∷ (0x73 ∷ 0x74 ∷ 0x72 ∷ [])
-    ∷ (0x6c ∷ 0x69 ∷ 0x73 ∷ 0x74 ∷ [])
-    ∷ (0x69 ∷ 0x6e ∷ 0x74 ∷ [])
-    ∷ []
+five-types = ascii "bool" ∷ ascii "tuple" ∷ ascii "str" ∷ ascii "list" ∷ ascii "int" ∷ []
 
 abbrev pub spells-one : List Value → List (List ℕ) → ℕ → Bool
 spells-one vs [] x = false

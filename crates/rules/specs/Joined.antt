@@ -1,10 +1,11 @@
 -- 01, "Record": "The joined call gives names, flow, incompatible, dubious, each pass's records after those of the one before,
 -- with a tally of seventeen counts, one per code." Assumes nothing.
-use Prim.Native.Nat.{ℕ, zero, suc, _+_}
+use Prim.Native.Nat.{ℕ, zero, suc}
 use mathlib.Core.Bool.{cond}
 use mathlib.Core.List.{List, [], _∷_, _++_, map}
-use lib.Dec.{eqb, ltb}
+use lib.Dec.{eqb}
 use lib.ListN.{getD, set, replicate}
+pub use Rattle.base.specs.Count.{one-more}
 use Rattle.tree.specs.declared.Mode.{Mode}
 use Rattle.rules.specs.Record.{Rec}
 use Rattle.rules.specs.Names.{names-list}
@@ -20,20 +21,23 @@ abbrev pub count-of : ℕ → List Rec → ℕ
 count-of c [] = 0
 count-of c (r ∷ rs) = cond (eqb c (r .code)) (suc (count-of c rs)) (count-of c rs)
 
--- "each equals its code's records"
+-- "seventeen counts, one per code"
+abbrev pub codes : ℕ
+codes = 17
+
+-- n numbers from c on
+abbrev pub numbers : ℕ → ℕ → List ℕ
+numbers zero c = []
+numbers (suc n) c = c ∷ numbers n (suc c)
+
+-- "each equals its code's records": the count of code 1 stands first
 abbrev pub tally-of : List Rec → List ℕ
-tally-of rs =
-    map (λ c. count-of c rs)
-    (1 ∷ 2 ∷ 3 ∷ 4 ∷ 5 ∷ 6 ∷ 7 ∷ 8 ∷ 9 ∷ 10 ∷ 11 ∷ 12 ∷ 13 ∷ 14 ∷ 15 ∷ 16 ∷ 17 ∷ [])
+tally-of rs = map (λ c. count-of c rs) (numbers codes 1)
 
 abbrev pub no-tally : List ℕ
-no-tally = replicate 17 0
+no-tally = replicate codes 0
 
--- one more, staying at 2^64 - 1, the largest count, so that any counts may be handed in
-abbrev pub one-more : ℕ → ℕ
-one-more n = cond (ltb n 18446744073709551615) (n + 1) n
-
--- "returned with one entry raised": the count of code 1 stands first
+-- "returned with one entry raised"
 unfoldable pub raise : ℕ → List ℕ → List ℕ
 raise zero ns = ns
 raise (suc i) ns = set ns i (one-more (getD ns i 0))

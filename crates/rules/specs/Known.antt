@@ -1,42 +1,17 @@
 -- 01, "Known lists": the starred examples, each a tree file with the list of the joined call in both modes. Assumes nothing.
 -- "Globals aren't given."
-use Prim.Native.Nat.{ℕ, _/_, _%_}
+use Prim.Native.Nat.{ℕ}
 use mathlib.Core.Bool.{Bool, true, false, _&&_}
-use mathlib.Core.List.{List, [], _∷_, _++_}
-use lib.ListN.{length}
+use mathlib.Core.List.{List, [], _∷_}
 use Rattle.tree.specs.declared.Mode.{Mode}
 use Rattle.tree.specs.declared.Mode.the-variants.{Ordinary, Strict}
-use Rattle.tree.specs.Keys.{same-bytes}
+use Rattle.tree.specs.Bytes.{same-bytes}
+use Rattle.tree.specs.Written.{node-of, value-of, file}
 use Rattle.tree.specs.Judge.{judged}
 use Rattle.tree.specs.declared.Judged.{Judged}
 use Rattle.tree.specs.declared.Judged.the-variants.{Valid, Refused}
 use Rattle.rules.specs.Record.{all-words}
 use Rattle.rules.specs.Joined.{lint-list}
-
--- ---- 01, "The tree file, version 1"
-
-abbrev pub u16 : ℕ → List ℕ
-u16 n = n % 256 ∷ n / 256 ∷ []
-
-abbrev pub u32 : ℕ → List ℕ
-u32 n = u16 (n % 65536) ++ u16 (n / 65536)
-
--- kind, role, size, begin, end, value number
-abbrev pub node-of : ℕ → ℕ → ℕ → ℕ → ℕ → ℕ → List ℕ
-node-of k r z b e v = (k ∷ r ∷ []) ++ (u16 z ++ (u32 b ++ (u32 e ++ (u16 v ++ u16 0))))
-
--- kind, bytes
-abbrev pub value-of : ℕ → List ℕ → List ℕ
-value-of k bs = (k ∷ []) ++ (u16 (length bs) ++ bs)
-
-abbrev pub joined : List (List ℕ) → List ℕ
-joined [] = []
-joined (l ∷ ls) = l ++ joined ls
-
--- SLT, version 1, the counts, globals not given, nodes, values
-abbrev pub file : List (List ℕ) → List (List ℕ) → List ℕ
-file ns vs =
-    (83 ∷ 76 ∷ 84 ∷ []) ++ (u16 1 ++ (u16 (length ns) ++ (u16 (length vs) ++ (u16 65535 ++ (joined ns ++ joined vs)))))
 
 -- ---- the files
 
@@ -250,10 +225,10 @@ is-valid (Refused why) = false
 abbrev pub lists : Mode → List ℕ → List ℕ → Bool
 lists mode t ns = same-bytes (all-words (lint-list mode t)) ns
 
-abbrev pub hold : List Row → Bool
-hold [] = true
-hold (r ∷ rs) =
+abbrev pub rows-hold : List Row → Bool
+rows-hold [] = true
+rows-hold (r ∷ rs) =
     (is-valid (judged (r .tree))
     && (lists Ordinary (r .tree) (r .ordinarily)
     && lists Strict (r .tree) (r .strictly)))
-    && hold rs
+    && rows-hold rs

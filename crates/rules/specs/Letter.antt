@@ -14,7 +14,8 @@ use Rattle.tree.specs.declared.Judged.the-variants.{Valid}
 use Rattle.rules.specs.Record.{Rec, named-at}
 use Rattle.rules.specs.Order.{Cmd, bare, def-body, fail-name}
 use Rattle.rules.specs.Names.{names-list}
-use Rattle.rules.specs.Flow.{reason, place, missing, missing-expression, none-name, flow-list}
+use Rattle.rules.specs.Visit.{spot-at}
+use Rattle.rules.specs.Flow.{reason, missing, missing-expression, none-name, flow-list}
 use Rattle.rules.specs.Premises.{Premises}
 use Rattle.rules.specs.Runs.{Node, Body, own, Held, nobody, through, by, Run, Reach}
 
@@ -36,10 +37,10 @@ module _ (is-fail is-none : ℕ → Bool) where
     pub unset : {b : Cmd} → Body is-fail f b → (s : Spot) → T (own (s .value) b) → Reach s b nobody → Told s names
     -- "If a run of a def that wants a value reaches its end .., the flow list has that def under missing-return"
     pub end : {h : Head} {k : Forest} {why : Spot} {τ : Held} → Wanting f h k why → Run (def-body is-fail k) nobody through τ
-        → List·Memᴰ (missing h (place 6 k) why) flow
+        → List·Memᴰ (missing h (spot-at 6 k) why) flow
     -- ".. or a bare return, .. that return under missing-return-expression."
     pub bare-return : {h : Head} {k : Forest} {why t : Spot} {τ : Held} → Wanting f h k why
-        → Run (def-body is-fail k) nobody (by (bare t)) τ → List·Memᴰ (missing-expression h (place 6 k) why t) flow
+        → Run (def-body is-fail k) nobody (by (bare t)) τ → List·Memᴰ (missing-expression h (spot-at 6 k) why t) flow
 
 -- of a file's bytes: "Demand 3 is read over demand 2's lists."
 abbrev pub Demand3-of : List ℕ → Type 0

@@ -1,5 +1,6 @@
 -- The rules of document 01 as definitions, in its order.
 pub mod Record
+pub mod Visit
 pub mod Order
 pub mod Names
 pub mod Flow
@@ -12,6 +13,7 @@ pub mod Afterwards
 pub mod Runs
 pub mod Premises
 pub mod Letter
-pub mod Marks
+pub mod code
 pub mod Codes
 pub mod Known
+pub mod Examples

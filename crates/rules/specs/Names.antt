@@ -48,9 +48,9 @@ abbrev pub among : Spot → List Spot → Bool
 among a [] = false
 among a (b ∷ bs) = same a b || among a bs
 
-abbrev pub named : ℕ → List Spot → Bool
-named x [] = false
-named x (b ∷ bs) = eqb x (b .value) || named x bs
+abbrev pub has-name : ℕ → List Spot → Bool
+has-name x [] = false
+has-name x (b ∷ bs) = eqb x (b .value) || has-name x bs
 
 pub record Setting : Type 0 where
   pub sort : Sort
@@ -107,55 +107,28 @@ abbrev pub keep : (Spot → Bool) → List Spot → List Spot
 keep p [] = []
 keep p (s ∷ ss) = elim (p s) [ true ↦ s ∷ keep p ss | false ↦ keep p ss ]
 
+abbrev pub scope-of : List Spot → List Spot → Spots → List Setting → (ℕ → Standing) → Abort → Scope
+scope-of c u d e f a = record { cant = c; unbound = u; used = d; settings = e; standing = f; abort = a }
+
 -- "Setting makes Definitely with that one span."
 abbrev pub set-at : Sort → Spot → Scope → Scope
 set-at o s c =
-    record {
-      cant = c .cant;
-      unbound = c .unbound;
-      used = c .used;
-      settings = c .settings ++ (record { sort = o; spot = s } ∷ []);
-      standing = λ x. cond (eqb x (s .value)) (definitely (same s)) (c .standing x);
-      abort = c .abort;
-    }
+    scope-of (c .cant) (c .unbound) (c .used) (c .settings ++ (record { sort = o; spot = s } ∷ []))
+    (λ x. cond (eqb x (s .value)) (definitely (same s)) (c .standing x)) (c .abort)
 
 -- "found, its spans become used there"
 abbrev pub mark : ℕ → Spots → Scope → Scope
 mark x ss c =
-    record {
-      cant = c .cant;
-      unbound = c .unbound;
-      used = λ t. c .used t || (eqb x (t .value) && ss t);
-      settings = c .settings;
-      standing = c .standing;
-      abort = c .abort;
-    }
+    scope-of (c .cant) (c .unbound) (λ t. c .used t || (eqb x (t .value) && ss t)) (c .settings) (c .standing) (c .abort)
 
 abbrev pub cannot : Spot → Scope → Scope
-cannot s c =
-    record {
-      cant = c .cant ++ (s ∷ []);
-      unbound = c .unbound;
-      used = c .used;
-      settings = c .settings;
-      standing = c .standing;
-      abort = c .abort;
-    }
+cannot s c = scope-of (c .cant ++ (s ∷ [])) (c .unbound) (c .used) (c .settings) (c .standing) (c .abort)
 
 abbrev pub unbinds : List Spot → Scope → Scope
-unbinds ss c =
-    record {
-      cant = c .cant;
-      unbound = c .unbound ++ ss;
-      used = c .used;
-      settings = c .settings;
-      standing = c .standing;
-      abort = c .abort;
-    }
+unbinds ss c = scope-of (c .cant) (c .unbound ++ ss) (c .used) (c .settings) (c .standing) (c .abort)
 
 abbrev pub stands : (ℕ → Standing) → Abort → Scope → Scope
-stands f a c =
-    record { cant = c .cant; unbound = c .unbound; used = c .used; settings = c .settings; standing = f; abort = a }
+stands f a c = scope-of (c .cant) (c .unbound) (c .used) (c .settings) f a
 
 -- "A use searches outward": the scopes further out after the search, and how the name stands in the first that has it
 pub data Found : Type 0 where
@@ -214,28 +187,28 @@ has-standing absent = false
 has-standing (maybe ss) = true
 has-standing (definitely ss) = true
 
-abbrev pub joined : Bool → Bool → Spots → Standing
-joined false b ss = absent
-joined true b ss = stand b ss
+abbrev pub stand-if : Bool → Bool → Spots → Standing
+stand-if false b ss = absent
+stand-if true b ss = stand b ss
 
 -- "Spans unite."
 abbrev pub join : Abort → Abort → Standing → Standing → Standing
 join a b x y =
-    joined (has-standing x || has-standing y) (join-sure (aborts a) (aborts b) (sure x) (sure y))
+    stand-if (has-standing x || has-standing y) (join-sure (aborts a) (aborts b) (sure x) (sure y))
     (λ t. spots x t || spots y t)
+
+-- what has gathered, with these standings and this abort
+abbrev pub goes-on : (ℕ → Standing) → Abort → State → State
+goes-on f a st = record { here = stands f a (st .here); above = st .above; out = st .out }
 
 -- "Branch: both sides start from the same standings and abort; uses, used pairs and settings gather through both.
 -- Abort after is the smaller."
 abbrev pub branch-of : (State → State) → (State → State) → State → State
 branch-of f g st =
     let one = f st in
-    let two = g (record { here = stands (st .here .standing) (st .here .abort) (one .here); above = one .above; out = one .out }) in
-    record {
-      here = stands (λ x. join (one .here .abort) (two .here .abort) (one .here .standing x) (two .here .standing x))
-          (smaller (one .here .abort) (two .here .abort)) (two .here);
-      above = two .above;
-      out = two .out;
-    }
+    let two = g (goes-on (st .here .standing) (st .here .abort) one) in
+    goes-on (λ x. join (one .here .abort) (two .here .abort) (one .here .standing x) (two .here .standing x))
+    (smaller (one .here .abort) (two .here .abort)) two
 
 -- "after each, a loop abort becomes none"
 abbrev pub unloop : Abort → Abort
@@ -248,9 +221,7 @@ same-state st = st
 
 -- "the target as in an assign and the body, together as a branch against nothing"
 abbrev pub round : (State → State) → State → State
-round f st =
-    let r = branch-of f same-state st in
-    record { here = stands (r .here .standing) (unloop (r .here .abort)) (r .here); above = r .above; out = r .out }
+round f st = let r = branch-of f same-state st in goes-on (r .here .standing) (unloop (r .here .abort)) r
 
 -- "1 unused load, 2 unused assign, 3 unused argument"
 abbrev pub unused : Sort → ℕ
@@ -273,7 +244,7 @@ spared-at underscore false c e = underscore (e .spot .value)
 -- a setting that doesn't warn: it is used, or its name has an unbound use, or it is excepted
 abbrev pub spared : (ℕ → Bool) → Bool → Scope → Setting → Bool
 spared underscore top c e =
-    c .used (e .spot) || (named (e .spot .value) (c .unbound) || spared-at underscore top c e)
+    c .used (e .spot) || (has-name (e .spot .value) (c .unbound) || spared-at underscore top c e)
 
 -- "Settings not used, with no unbound use of that name, warn 1, 2 or 3"
 abbrev pub idle : (ℕ → Bool) → Bool → Scope → List Setting → List Warning → List Warning
@@ -320,8 +291,7 @@ module _ (underscore : ℕ → Bool) where
   walk depth (a ⨟ b) st = walk depth b (walk depth a st)
   walk depth (use-of s) st = use-at s st
   walk depth (set-of o s) st = record { here = set-at o s (st .here); above = st .above; out = st .out }
-  walk depth (stop why) st =
-      record { here = stands (st .here .standing) (abort-of why) (st .here); above = st .above; out = st .out }
+  walk depth (stop why) st = goes-on (st .here .standing) (abort-of why) st
   walk depth (branch a b) st = branch-of (walk depth a) (walk depth b) st
   walk depth (loop c) st = rounds (leb (suc depth) 5) (walk (suc depth) c) st
   walk depth (scope c) st = leave underscore (walk depth c (enter st))

@@ -4,7 +4,9 @@ use Prim.Native.Nat.{ℕ}
 use mathlib.Core.Bool.{Bool, true, false, cond, _&&_, _||_}
 use mathlib.Core.List.{List, [], _∷_}
 use lib.Dec.{eqb}
+use Rattle.tree.specs.Bytes.{ascii}
 use Rattle.tree.specs.Forest.{Spot, Head, Forest, none, node}
+use Rattle.rules.specs.Visit.{look, has}
 
 -- break ends its loop, continue the loop's round
 pub data Broken : Type 0 where
@@ -38,11 +40,6 @@ infixr 20 _⨟_
 pub data Form : Type 0 where
   breaking returning expression assign modify statements if if-else for def load identifier lambda comprehension plain : Form
 
--- what a table says of a number; d where it has no row
-abbrev pub look {ℓ} : {A : Type ℓ} → ℕ → List (ℕ × A) → A → A
-look k [] d = d
-look k (e ∷ es) d = elim (eqb k (e .0)) [ true ↦ e .1 | false ↦ look k es d ]
-
 abbrev pub forms : List (ℕ × Form)
 forms = (1, Form.breaking) ∷ (2, Form.breaking) ∷ (4, Form.returning) ∷ (5, Form.expression) ∷ (6, Form.assign) ∷ (7, Form.modify)
     ∷ (8, Form.statements) ∷ (9, Form.if) ∷ (10, Form.if-else) ∷ (11, Form.for) ∷ (12, Form.def) ∷ (13, Form.load)
@@ -50,29 +47,6 @@ forms = (1, Form.breaking) ∷ (2, Form.breaking) ∷ (4, Form.returning) ∷ (5
 
 abbrev pub form-of : Head → Form
 form-of h = look (h .kind) forms Form.plain
-
--- a number for each form, all different: forms are told apart by it
-abbrev pub rank : Form → ℕ
-rank Form.breaking = 0
-rank Form.returning = 1
-rank Form.expression = 2
-rank Form.assign = 3
-rank Form.modify = 4
-rank Form.statements = 5
-rank Form.if = 6
-rank Form.if-else = 7
-rank Form.for = 8
-rank Form.def = 9
-rank Form.load = 10
-rank Form.identifier = 11
-rank Form.lambda = 12
-rank Form.comprehension = 13
-rank Form.plain = 14
-
--- what a table's rows say of a form; d: of any other form
-abbrev pub case {ℓ} : {A : Type ℓ} → Form → List (Form × A) → A → A
-case z [] d = d
-case z (e ∷ es) d = elim (eqb (rank z) (rank (e .0))) [ true ↦ e .1 | false ↦ case z es d ]
 
 -- what a node binds: a target's name, a parameter's, a loaded name; several: what its members bind
 pub data Bind : Type 0 where
@@ -116,18 +90,12 @@ abbrev pub uses : ℕ → Forest → Cmd
 uses r none = skip
 uses r (node h k s) = picked (eqb r (h .role)) (use-part (bind-of h) h (λ v. uses v k)) (uses r s)
 
--- whether a node of the role r is there
-abbrev pub has : ℕ → Forest → Bool
-has r none = false
-has r (node h k s) = eqb r (h .role) || has r s
-
 -- kind 1 is break, kind 2 continue
 abbrev pub broken-by : Head → Broken
 broken-by h = cond (eqb 1 (h .kind)) the-loop the-round
 
--- fail
 abbrev pub fail-name : List ℕ
-fail-name = 0x66 ∷ 0x61 ∷ 0x69 ∷ 0x6c ∷ []
+fail-name = ascii "fail"
 
 module _ (is-fail : ℕ → Bool) where
   -- the function of a call is the identifier fail

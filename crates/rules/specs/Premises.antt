@@ -4,14 +4,10 @@ use mathlib.Core.Bool.{Bool, true, false, cond, _&&_, _||_, not}
 use mathlib.Core.List.{List, [], _∷_, _++_}
 use lib.Dec.{eqb, T}
 use Rattle.tree.specs.Forest.{Spot, Forest, none, node}
-use Rattle.tree.specs.Nodes.{named}
+use Rattle.tree.specs.Nodes.{holds-name}
 use Rattle.rules.specs.Names.{among}
 
--- the nodes that hold a name: identifier (20), name as a target (40), named parameter (43), loaded name (47)
-abbrev pub holds-name : ℕ → Bool
-holds-name k = named k
-
--- their spans and names, in file order
+-- the spans and names of the nodes that hold a name, in file order
 abbrev pub name-spots : Forest → List Spot
 name-spots none = []
 name-spots (node h k s) = cond (holds-name (h .kind)) (h .spot ∷ []) [] ++ (name-spots k ++ name-spots s)

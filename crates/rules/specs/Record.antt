@@ -2,6 +2,7 @@
 use Prim.Native.Nat.{ℕ}
 use mathlib.Core.Bool.{Bool, true, false}
 use mathlib.Core.List.{List, [], _∷_, _++_}
+use mathlib.Core.Option.{Option, none, some}
 use Rattle.tree.specs.Forest.{Spot}
 
 pub record Span : Type 0 where
@@ -33,6 +34,10 @@ named-at c s = record { code = c; spot = s; second = no-span; third = no-span }
 abbrev pub plainly : ℕ → Spot → Rec
 plainly c s = named-at c (with-value s 65535)
 
+-- "Record, eight u32"
+abbrev pub width : ℕ
+width = 8
+
 abbrev pub words : Rec → List ℕ
 words r =
     r .code
@@ -54,3 +59,8 @@ all-words (r ∷ rs) = words r ++ all-words rs
 abbrev pub listed {ℓ} : {A : Type ℓ} → Bool → List A → List A → List A
 listed true a b = a ++ b
 listed false a b = b
+
+-- the first of two, if it is there
+abbrev pub or-else {ℓ} : {A : Type ℓ} → Option A → Option A → Option A
+or-else (some a) b = some a
+or-else none b = b

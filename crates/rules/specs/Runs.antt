@@ -49,11 +49,11 @@ pub data End : Type 0 where
   through : End
   by : Stop → End
 
-abbrev pub returning : Stop → Bool
-returning (breaks b) = false
-returning (bare s) = true
-returning valued = true
-returning fails = false
+abbrev pub is-return : Stop → Bool
+is-return (breaks b) = false
+is-return (bare s) = true
+is-return valued = true
+is-return fails = false
 
 -- A run of a part, from the names set before it to those set after it.
 pub data Run : Cmd → Held → End → Held → Type 0 where
@@ -64,7 +64,7 @@ pub data Run : Cmd → Held → End → Held → Type 0 where
   sets : {o : Sort} {s : Spot} {σ : Held} → Run (set-of o s) σ through (hold s σ)
   -- break, continue and return cut short; fail isn't among them
   breaking : {b : Broken} {σ : Held} → Run (stop (breaks b)) σ (by (breaks b)) σ
-  returns : {w : Stop} {σ : Held} → T (returning w) → Run (stop w) σ (by w) σ
+  returns : {w : Stop} {σ : Held} → T (is-return w) → Run (stop w) σ (by w) σ
   left : {a b : Cmd} {σ τ : Held} {e : End} → Run a σ e τ → Run (branch a b) σ e τ
   right : {a b : Cmd} {σ τ : Held} {e : End} → Run b σ e τ → Run (branch a b) σ e τ
   -- a loop: no round more; a round and on; continue ends the round, and on; break ends the loop; return ends the body
@@ -72,7 +72,7 @@ pub data Run : Cmd → Held → End → Held → Type 0 where
   round : {c : Cmd} {σ τ υ : Held} {e : End} → Run c σ through τ → Run (loop c) τ e υ → Run (loop c) σ e υ
   continues : {c : Cmd} {σ τ υ : Held} {e : End} → Run c σ (by (breaks the-round)) τ → Run (loop c) τ e υ → Run (loop c) σ e υ
   out : {c : Cmd} {σ τ : Held} → Run c σ (by (breaks the-loop)) τ → Run (loop c) σ through τ
-  away : {c : Cmd} {σ τ : Held} {w : Stop} → T (returning w) → Run c σ (by w) τ → Run (loop c) σ (by w) τ
+  away : {c : Cmd} {σ τ : Held} {w : Stop} → T (is-return w) → Run c σ (by w) τ → Run (loop c) σ (by w) τ
   -- the body of a nested def, lambda or comprehension isn't of the body's own scope
   apart : {c : Cmd} {σ : Held} → Run (scope c) σ through σ
 

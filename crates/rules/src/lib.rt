@@ -2,12 +2,22 @@
 ghost use mathlib.Core.Path.{_≡_};
 ghost use Rattle.rules.specs.Outcome.{numberOf, placeOf};
 
-// Why a call is refused: the tree, the work room, or the answer room with the records that it needs.
+// The words of a record; the counts of a tally, and the last code; the words of work room that names needs.
+pub const WIDTH: usize = 8;
+
+pub const CODES: usize = 17;
+
+pub const LAST_CODE: u32 = CODES as u32;
+
+pub const WORK_WORDS: usize = 32768;
+
+// Why a call is refused: the tree, the work room, the answer room with the records that it needs, or another lent room with what it needs.
 // Specs' numberOf and placeOf give 01's numbers.
 pub enum Refusal {
     Tree(tree::Refusal),
     WorkRoom,
     AnswerRoom(usize),
+    OtherRoom(usize),
 }
 
 impl Refusal {
@@ -19,10 +29,11 @@ impl Refusal {
             Refusal::Tree(why) => why.number(),
             Refusal::WorkRoom => 10,
             Refusal::AnswerRoom(_) => 11,
+            Refusal::OtherRoom(_) => 12,
         }
     }
 
-    // 01's place; for 11 the records needed.
+    // 01's place; for 11 the records needed, for 12 what the other room needs.
     pub fn place(self) -> usize
         ensures { λ r. ⌜ r ≡ placeOf self ⌝ }
     {
@@ -30,6 +41,7 @@ impl Refusal {
             Refusal::Tree(why) => why.place(),
             Refusal::WorkRoom => 0,
             Refusal::AnswerRoom(n) => n,
+            Refusal::OtherRoom(n) => n,
         }
     }
 }
@@ -42,5 +54,5 @@ pub enum Outcome {
 // No enum holds an array, so the tally stands beside the outcome.
 pub struct Answer {
     pub outcome: Outcome,
-    pub tally: [usize; 17],
+    pub tally: [usize; CODES],
 }

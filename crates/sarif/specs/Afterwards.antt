@@ -4,23 +4,23 @@ use mathlib.Core.Path.{_≡_}
 use mathlib.Core.List.{List}
 use mathlib.Core.Option.{Option, none, some}
 use lib.ListN.{length, take, drop}
-use Rattle.rules.specs.Record.{Rec}
+use Rattle.rules.specs.Record.{Rec, width}
 use Rattle.rules.specs.Joined.{no-tally, tally-of}
-use Rattle.rules.specs.Outcome.{cleared}
+use Rattle.rules.specs.Outcome.{numberOf, refusal, cleared, work-by}
 use Rattle.rules.specs.Afterwards.{records-in}
-use Rattle.sarif.specs.Log.{log}
-use Rattle.sarif.specs.Calls.{Done, numberOf, refusal, lint-refusal, work-by}
-use Rattle.sarif.specs.declared.Refusal.{Refusal}
+use Rattle.log.specs.Log.{log}
+use Rattle.rules.specs.declared.Refusal.{Refusal}
+use Rattle.sarif.specs.Calls.{Done, checks}
 use Rattle.sarif.specs.declared.Outcome.the-variants.{Logged, Refused}
 use Rattle.sarif.specs.declared.Answer.{Answer}
 
 -- an answer, with the work room, the answer room and the output room afterwards, as a call's promise has them
 abbrev pub Gives : Done → Answer → List ℕ → List ℕ → List ℕ → Type 0
-Gives d a work room output = (a ≡ d .answer) × (work ≡ d .work) × (room ≡ d .room) × (output ≡ d .output)
+Gives d a work room output = record { answer = a; work = work; room = room; output = output } ≡ d
 
 -- the refusal of a call with the list rs of the file t, if there is one
 abbrev pub given : List Rec → List ℕ → List ℕ → List ℕ → List ℕ → Option Refusal
-given rs t work room output = refusal (lint-refusal t rs work room) (length (log t rs)) (length output)
+given rs t work room output = refusal (checks rs t work room output)
 
 -- The log of the list rs of the file t: no refusal is given; the log stands first in the output room, whose bytes past it stay; the
 -- list stands in the answer room, whose words past the last record stay; "the first 32,768 words of work room are zero".
@@ -32,7 +32,7 @@ pub record Logs (rs : List Rec) (t work room output : List ℕ) (a : Answer) (wo
   pub past : drop (length (log t rs)) output′ ≡ drop (length (log t rs)) output
   pub as-long : length output′ ≡ length output
   pub records : records-in (length rs) room′ ≡ rs
-  pub room-past : drop (8 * length rs) room′ ≡ drop (8 * length rs) room
+  pub room-past : drop (width * length rs) room′ ≡ drop (width * length rs) room
   pub room-as-long : length room′ ≡ length room
   pub cleared-work : work′ ≡ cleared work
 

@@ -6,42 +6,16 @@ ghost use Prim.Native.Nat.{_≤_};
 ghost use lib.ListN.{length, take, drop};
 ghost use Rattle.rules.specs.Joined.{no-tally};
 ghost use Rattle.rules.specs.Afterwards.{records-in};
-ghost use Rattle.sarif.specs.Pieces.{Listed, Tells};
-ghost use Rattle.sarif.specs.Calls.{numberOf, placeOf, sarif-call};
+ghost use Rattle.sarif.specs.Telling.{Listed, Tells};
+ghost use Rattle.sarif.specs.Calls.{sarif-call};
+use rules::CODES;
 use rules::Outcome as Linted;
+use rules::Refusal;
+use rules::WIDTH;
 use tree::Mode;
 
-mod log;
-mod words;
-
-// Why a call is refused: as the joined call, or the output room with the bytes that it needs.
-// Specs' numberOf and placeOf give 01's numbers, and 12.
-pub enum Refusal {
-    Lint(rules::Refusal),
-    OutputRoom(usize),
-}
-
-impl Refusal {
-    // 01's number, or 12.
-    pub fn number(self) -> usize
-        ensures { λ r. ⌜ r ≡ numberOf self ⌝ }
-    {
-        match self {
-            Refusal::Lint(why) => why.number(),
-            Refusal::OutputRoom(_) => 12,
-        }
-    }
-
-    // 01's place; for 12 the bytes needed.
-    pub fn place(self) -> usize
-        ensures { λ r. ⌜ r ≡ placeOf self ⌝ }
-    {
-        match self {
-            Refusal::Lint(why) => why.place(),
-            Refusal::OutputRoom(n) => n,
-        }
-    }
-}
+// The words of the call's own room: no valid file has more than 10,240 records.
+const ROOM: usize = WIDTH * 10240;
 
 // What was written: records into the answer room, bytes into the output room.
 pub struct Sizes {
@@ -56,20 +30,20 @@ pub enum Outcome {
 
 pub struct Answer {
     pub outcome: Outcome,
-    pub tally: [usize; 17],
+    pub tally: [usize; CODES],
 }
 
 fn refused(why: Refusal) -> Answer
     ensures { λ r. ⌜ (r .outcome ≡ Outcome.Refused why) × (r .tally ≡ no-tally) ⌝ }
 {
-    let zero = [0; 17];
+    let zero = [0; CODES];
     Answer {
         outcome: Outcome::Refused(why),
         tally: zero,
     }
 }
 
-fn logged(records: usize, bytes: usize, tally: [usize; 17]) -> Answer
+fn logged(records: usize, bytes: usize, tally: [usize; CODES]) -> Answer
     ensures { λ r. ⌜ (r .outcome ≡ Outcome.Logged (record { records = records; bytes = bytes })) × (r .tally ≡ tally) ⌝ }
 {
     Answer {
@@ -95,22 +69,22 @@ fn tell(
     t: &[u8],
     list: &[u32],
     n: usize,
-    tally: [usize; 17],
+    tally: [usize; CODES],
     answer: &mut [u32],
     output: &mut [u8],
 ) -> Answer
     requires { ⌜ Listed (now t) (now list) n tally ⌝ }
     ensures { λ r. ⌜ Tells (records-in n (now (list .entry))) (now (t .entry)) (now (answer .entry)) (now (output .entry)) r (now (answer .exit)) (now (output .exit)) ⌝ }
 {
-    if answer.len() / 8 < n {
-        return refused(Refusal::Lint(rules::Refusal::AnswerRoom(n)));
+    if answer.len() / WIDTH < n {
+        return refused(Refusal::AnswerRoom(n));
     }
     let starts = log::starts(t);
     let needed = log::log(&mut output[..0], t, &starts, list, n, tally);
     if output.len() < needed {
-        return refused(Refusal::OutputRoom(needed));
+        return refused(Refusal::OtherRoom(needed));
     }
-    copy(list, answer, 8 * n);
+    copy(list, answer, WIDTH * n);
     log::log(output, t, &starts, list, n, tally);
     logged(n, needed, tally)
 }
@@ -125,12 +99,12 @@ pub fn sarif(
 ) -> Answer
     ensures { λ r. ⌜ record { answer = r; work = now (work .exit); room = now (answer .exit); output = now (output .exit) } ≡ sarif-call mode (now (t .entry)) (now (work .entry)) (now (answer .entry)) (now (output .entry)) ⌝ }
 {
-    let mut list = [0u32; 81920];
+    let mut list = [0u32; ROOM];
     let a = lint::lint(t, mode, work, &mut list);
     let o = a.outcome;
     let tally = a.tally;
     match o {
         Linted::Listed(n) => tell(t, &list, n, tally, answer, output),
-        Linted::Refused(why) => refused(Refusal::Lint(why)),
+        Linted::Refused(why) => refused(why),
     }
 }

@@ -7,8 +7,7 @@ use lib.Dec.{eqb}
 use Rattle.tree.specs.Forest.{Spot, Forest, Forest.none as leaf, node}
 use Rattle.tree.specs.Keys.{Likeness, different, same-form, same-number}
 use Rattle.rules.specs.Record.{Rec, Span, named-at}
-use Rattle.rules.specs.Flow.{place}
-use Rattle.rules.specs.Incompatible.{each, kind-at}
+use Rattle.rules.specs.Visit.{spot-at, each, kind-at}
 use Rattle.rules.specs.Dubious.{keys, seen-with, clash, against, doubles, dict-at, idle-at, dubious}
 use Rattle.spans.specs.Fit.{Fit, Each, Ordered}
 use Rattle.spans.proofs.Each.{Straight, join, listed-each}
@@ -49,4 +48,4 @@ module _ (test : ℕ → ℕ → Likeness) (reason : Likeness → Span) (third :
       f o)
       (each-fit idle-at
       (λ h k a b. let p = place-straight k b 4 in
-      listed-each Fit (eqb 5 (h .kind) && eqb 20 (kind-at 4 k)) (named-at 17 (place 4 k) ∷ []) [] (omega arith) tt) f o)
+      listed-each Fit (eqb 5 (h .kind) && eqb 20 (kind-at 4 k)) (named-at 17 (spot-at 4 k) ∷ []) [] (omega arith) tt) f o)

@@ -7,15 +7,15 @@ use mathlib.Core.Option.{Option, none, some}
 use lib.Dec.{eqb}
 use Rattle.tree.specs.Forest.{Spot, Head, Forest, Forest.none as leaf, node}
 use Rattle.rules.specs.Record.{Rec, plainly}
-use Rattle.rules.specs.Order.{Form, form-of, has}
-use Rattle.rules.specs.Flow.{place, last-of, Return, Which, everything, the-body, the-rest, wanted, returns-rows, returns-part, returns, first-valued, or-else, type-reason, reason, ends, missing, missing-expression, bare-recs, check-for, check-rows, check, returns-walk, Reached, Course, in-list, each, only, on-through, after-stop, reach-rows, reach-part, reach, tail-rows, tail-part, tail, redundant-part, redundant-walk, below-root, loads-rows, loads-part, loads, effect, effect-rows, effect-part, effect-walk, flow}
-use Rattle.rules.proofs.Look.{case-all}
+use Rattle.rules.specs.Visit.{has, spot-at, last-of}
+use Rattle.rules.specs.Flow.{Return, Which, everything, the-body, the-rest, wanted, returns-part, returns, first-valued, type-reason, reason, ends, missing, missing-expression, bare-recs, check-for, check, returns-walk, Reached, Course, in-list, one-by-one, only, on-through, after-stop, reached-part, reached, tail-part, tail, redundant-part, redundant-walk, below-root, Loads, loads-part, loads, effect, effect-part, effect-walk, flow}
+use Rattle.rules.specs.Record.{or-else}
 use Rattle.spans.specs.Fit.{Fit, Each, Ordered}
 use Rattle.spans.proofs.Each.{Straight, If-some, either, join, listed-each}
 
-pub place-straight : (k : Forest) → Ordered k → (r : ℕ) → Straight (place r k)
+pub place-straight : (k : Forest) → Ordered k → (r : ℕ) → Straight (spot-at r k)
 place-straight leaf o r = omega arith
-place-straight (node h k s) o r = either Straight (eqb r (h .role)) (h .spot) (place r s) (o .0) (place-straight s (o .1 .1) r)
+place-straight (node h k s) o r = either Straight (eqb r (h .role)) (h .spot) (spot-at r s) (o .0) (place-straight s (o .1 .1) r)
 
 -- ---- returns: 8 and 7
 
@@ -25,9 +25,9 @@ Placed r = Straight (r .spot)
 returns-straight : (f : Forest) → Ordered f → (w : Which) → Each Placed (returns w f)
 returns-straight leaf o w = tt
 returns-straight (node h k s) o w =
-    listed-each Placed (wanted w (h .role)) (returns-part (form-of h) h k (λ v. returns v k)) (returns w s)
-    (case-all (λ f. Each Placed (f h k (λ v. returns v k))) (form-of h) returns-rows (λ h k down. down everything)
-    ((o .0, returns-straight k (o .1 .0) everything), (returns-straight k (o .1 .0) the-rest, tt)) (returns-straight k (o .1 .0) everything))
+    listed-each Placed (wanted w (h .role)) (returns-part (h .kind) h k (λ v. returns v k)) (returns w s)
+    (either (Each Placed) (eqb (h .kind) 4) _ _ (o .0, returns-straight k (o .1 .0) everything)
+    (either (Each Placed) (eqb (h .kind) 12) _ _ (returns-straight k (o .1 .0) the-rest) (returns-straight k (o .1 .0) everything)))
     (returns-straight s (o .1 .1) w)
 
 valued-straight : (rs : List Return) → Each Placed rs → If-some Straight (first-valued rs)
@@ -66,15 +66,14 @@ module _ (is-fail is-none : ℕ → Bool) where
       → Each Fit (check-for is-fail is-none h k w)
   check-for-fit h k none a o p = tt
   check-for-fit h k (some why) a o p =
-      listed-each Fit (not (ends is-fail 1 k)) (missing h (place 6 k) why ∷ []) (bare-recs h (place 6 k) why (returns the-body k))
-      (omega arith) (bare-fit h (place 6 k) why (returns the-body k) a p (returns-straight k o the-body))
+      listed-each Fit (not (ends is-fail 1 k)) (missing h (spot-at 6 k) why ∷ []) (bare-recs h (spot-at 6 k) why (returns the-body k))
+      (omega arith) (bare-fit h (spot-at 6 k) why (returns the-body k) a p (returns-straight k o the-body))
 
   returns-fit : (f : Forest) → Ordered f → Each Fit (returns-walk is-fail is-none f)
   returns-fit leaf o = tt
   returns-fit (node h k s) o =
-      join Fit (check is-fail is-none (form-of h) h k) (returns-walk is-fail is-none k ++ returns-walk is-fail is-none s)
-      (case-all (λ f. Each Fit (f h k)) (form-of h) (check-rows is-fail is-none) (λ h k. [])
-      (check-for-fit h k (reason is-none k) (o .0) (o .1 .0) (reason-straight k (o .1 .0)), tt) tt)
+      join Fit (check is-fail is-none (h .kind) h k) (returns-walk is-fail is-none k ++ returns-walk is-fail is-none s)
+      (either (Each Fit) (eqb (h .kind) 12) _ _ (check-for-fit h k (reason is-none k) (o .0) (o .1 .0) (reason-straight k (o .1 .0))) tt)
       (join Fit (returns-walk is-fail is-none k) (returns-walk is-fail is-none s) (returns-fit k (o .1 .0)) (returns-fit s (o .1 .1)))
 
 -- ---- reachable: 9
@@ -87,29 +86,29 @@ abbrev Reports : Reached → Type 0
 Reports r = Each Fit (r .recs)
 
 module _ (is-fail : ℕ → Bool) where
-  part-reports : (z : Form) (k : Forest) → ((m : Course) → Reports (reach is-fail m k))
-      → Reports (reach-part is-fail z k (λ v. reach is-fail v k))
+  part-reports : (z : ℕ) (k : Forest) → ((m : Course) → Reports (reached is-fail m k))
+      → Reports (reached-part is-fail z k (λ v. reached is-fail v k))
   part-reports z k c =
-      case-all (λ f. Reports (f k (λ v. reach is-fail v k))) z (reach-rows is-fail) (λ k down. on-through (down each))
-      (tt, (tt, (tt, (c in-list, (join Fit (reach is-fail (only 1) k .recs) (reach is-fail (only 2) k .recs) (c (only 1)) (c (only 2)), tt)))))
-      (c each)
+      either Reports (eqb z 1) _ _ tt (either Reports (eqb z 2) _ _ tt (either Reports (eqb z 4) _ _ tt (either Reports (eqb z 5) _ _ tt
+      (either Reports (eqb z 8) _ _ (c in-list) (either Reports (eqb z 10) _ _
+      (join Fit (reached is-fail (only 1) k .recs) (reached is-fail (only 2) k .recs) (c (only 1)) (c (only 2))) (c one-by-one))))))
 
-  reach-fit : (f : Forest) → Ordered f → (m : Course) → Reports (reach is-fail m f)
+  reach-fit : (f : Forest) → Ordered f → (m : Course) → Reports (reached is-fail m f)
   reach-fit leaf o m = tt
   reach-fit (node h k s) o in-list =
-      let a = reach-part is-fail (form-of h) k (λ v. reach is-fail v k) in
-      let b = reach is-fail in-list s in
-      let p : Reports a = part-reports (form-of h) k (reach-fit k (o .1 .0)) in
+      let a = reached-part is-fail (h .kind) k (λ v. reached is-fail v k) in
+      let b = reached is-fail in-list s in
+      let p : Reports a = part-reports (h .kind) k (reach-fit k (o .1 .0)) in
       either Reports (a .stops) (record { stops = true; recs = a .recs ++ after-stop s })
       (record { stops = b .stops; recs = a .recs ++ b .recs })
       (join Fit (a .recs) (after-stop s) p (after-fit s (o .1 .1)))
       (join Fit (a .recs) (b .recs) p (reach-fit s (o .1 .1) in-list))
-  reach-fit (node h k s) o each =
-      join Fit (reach-part is-fail (form-of h) k (λ v. reach is-fail v k) .recs) (reach is-fail each s .recs)
-      (part-reports (form-of h) k (reach-fit k (o .1 .0))) (reach-fit s (o .1 .1) each)
+  reach-fit (node h k s) o one-by-one =
+      join Fit (reached-part is-fail (h .kind) k (λ v. reached is-fail v k) .recs) (reached is-fail one-by-one s .recs)
+      (part-reports (h .kind) k (reach-fit k (o .1 .0))) (reach-fit s (o .1 .1) one-by-one)
   reach-fit (node h k s) o (only r) =
-      either Reports (eqb r (h .role)) (reach-part is-fail (form-of h) k (λ v. reach is-fail v k)) (reach is-fail (only r) s)
-      (part-reports (form-of h) k (reach-fit k (o .1 .0))) (reach-fit s (o .1 .1) (only r))
+      either Reports (eqb r (h .role)) (reached-part is-fail (h .kind) k (λ v. reached is-fail v k)) (reached is-fail (only r) s)
+      (part-reports (h .kind) k (reach-fit k (o .1 .0))) (reach-fit s (o .1 .1) (only r))
 
 -- ---- redundant: 10 and 11
 
@@ -123,22 +122,18 @@ tail-fit leaf o l r = tt
 tail-fit (node h k s) o l r =
     let c : (v : ℕ) → Each Fit (tail l v k) = tail-fit k (o .1 .0) l in
     let a = o .0 in
-    last-fit (eqb r (h .role)) (has r s) (tail-part (form-of h) l h k (λ v. tail l v k)) (tail l r s)
-    (case-all (λ f. Each Fit (f l h k (λ v. tail l v k))) (form-of h) tail-rows (λ loops h k down. []) (
-      listed-each Fit (l && eqb 2 (h .kind)) (plainly 11 (h .spot) ∷ []) [] (omega arith) tt,
-      (
-        listed-each Fit (not l && not (has 4 k)) (plainly 10 (h .spot) ∷ []) [] (omega arith) tt,
-        (c 0, (c 1, (join Fit (tail l 1 k) (tail l 2 k) (c 1) (c 2), tt))),
-      ),
-    ) tt)
+    last-fit (eqb r (h .role)) (has r s) (tail-part (h .kind) l h k (λ v. tail l v k)) (tail l r s)
+    (either (Each Fit) (eqb (h .kind) 2) _ _ (listed-each Fit l (plainly 11 (h .spot) ∷ []) [] (omega arith) tt)
+    (either (Each Fit) (eqb (h .kind) 4) _ _ (listed-each Fit (not l && not (has 4 k)) (plainly 10 (h .spot) ∷ []) [] (omega arith) tt)
+    (either (Each Fit) (eqb (h .kind) 8) _ _ (c 0) (either (Each Fit) (eqb (h .kind) 9) _ _ (c 1)
+    (either (Each Fit) (eqb (h .kind) 10) _ _ (join Fit (tail l 1 k) (tail l 2 k) (c 1) (c 2)) tt)))))
     (tail-fit s (o .1 .1) l r)
 
 redundant-fit : (f : Forest) → Ordered f → Each Fit (redundant-walk f)
 redundant-fit leaf o = tt
 redundant-fit (node h k s) o =
-    join Fit (redundant-part (form-of h) k) (redundant-walk k ++ redundant-walk s)
-    (case-all (λ f. Each Fit (f k)) (form-of h) ((Form.for, tail true 1) ∷ (Form.def, tail false 1) ∷ []) (λ k. [])
-    (tail-fit k (o .1 .0) true 1, (tail-fit k (o .1 .0) false 1, tt)) tt)
+    join Fit (redundant-part (h .kind) k) (redundant-walk k ++ redundant-walk s)
+    (either (Each Fit) (eqb (h .kind) 11) _ _ (tail-fit k (o .1 .0) true 1) (either (Each Fit) (eqb (h .kind) 12) _ _ (tail-fit k (o .1 .0) false 1) tt))
     (join Fit (redundant-walk k) (redundant-walk s) (redundant-fit k (o .1 .0)) (redundant-fit s (o .1 .1)))
 
 below-ordered : (f : Forest) → Ordered f → Ordered (below-root f)
@@ -151,28 +146,27 @@ module _ (is-string : ℕ → Bool) where
   loads-fit : (f : Forest) → Ordered f → (may : Bool) → Each Fit (loads is-string may f .recs)
   loads-fit leaf o may = tt
   loads-fit (node h k s) o may =
-      let a = loads-part is-string (form-of h) may h k (λ v. loads is-string v k) in
+      let a = loads-part is-string (h .kind) may h k (λ v. loads is-string v k) in
       let b = o .0 in
       join Fit (a .recs) (loads is-string (a .may) s .recs)
-      (case-all (λ f. Each Fit (f may h k (λ v. loads is-string v k) .recs)) (form-of h) (loads-rows is-string)
-      (λ may h k down. record { may = false; recs = [] })
-      (tt, (loads-fit k (o .1 .0) may, (listed-each Fit (not may) (plainly 12 (h .spot) ∷ []) [] (omega arith) tt, tt))) tt)
+      (either (λ (l : Loads). Each Fit (l .recs)) (eqb (h .kind) 5) _ _ tt (either (λ (l : Loads). Each Fit (l .recs)) (eqb (h .kind) 8) _ _ (loads-fit k (o .1 .0) may)
+      (either (λ (l : Loads). Each Fit (l .recs)) (eqb (h .kind) 13) _ _ (listed-each Fit (not may) (plainly 12 (h .spot) ∷ []) [] (omega arith) tt) tt)))
       (loads-fit s (o .1 .1) (a .may))
 
   effect-fit : (f : Forest) → Ordered f → Each Fit (effect-walk is-string f)
   effect-fit leaf o = tt
   effect-fit (node h k s) o =
       let a = place-straight k (o .1 .0) 4 in
-      join Fit (effect-part is-string (form-of h) k (effect-walk is-string k)) (effect-walk is-string s)
-      (case-all (λ f. Each Fit (f k (effect-walk is-string k))) (form-of h) (effect-rows is-string) (λ k down. down)
-      (listed-each Fit (not (effect is-string k)) (plainly 13 (place 4 k) ∷ []) [] (omega arith) tt, tt) (effect-fit k (o .1 .0)))
+      join Fit (effect-part is-string (h .kind) k (effect-walk is-string k)) (effect-walk is-string s)
+      (either (Each Fit) (eqb (h .kind) 5) _ _ (listed-each Fit (not (effect is-string k)) (plainly 13 (spot-at 4 k) ∷ []) [] (omega arith) tt)
+      (effect-fit k (o .1 .0)))
       (effect-fit s (o .1 .1))
 
 -- FLOW
 pub flow-fit : (is-fail is-none is-string : ℕ → Bool) (f : Forest) → Ordered f → Each Fit (flow is-fail is-none is-string f)
 flow-fit is-fail is-none is-string f o =
     let a = returns-walk is-fail is-none f in
-    let b = reach is-fail (only 0) f .recs in
+    let b = reached is-fail (only 0) f .recs in
     let c = redundant-walk (below-root f) in
     let d = loads is-string true f .recs in
     let e = effect-walk is-string f in

@@ -7,9 +7,9 @@ use mathlib.Core.Option.{Option, none, some}
 use lib.Dec.{eqb}
 use Rattle.tree.specs.Forest.{Spot, Head, Forest, Forest.none as leaf, node}
 use Rattle.rules.specs.Record.{Rec, named-at, with-value}
-use Rattle.rules.specs.Order.{Bind, one, several, nothing, bind-of, look}
-use Rattle.rules.specs.Flow.{place}
-use Rattle.rules.specs.Incompatible.{each, check-at, type-check, Deed, defines, repeats, deed-part, named, self-set, Top, assigning, modifying, defining, loading, holding, aside, tops, top-part, deeds, First, first-of, times, defined, may-repeat, judge, incompatible}
+use Rattle.rules.specs.Visit.{look, spot-at, each}
+use Rattle.rules.specs.Order.{Bind, one, several, nothing, bind-of}
+use Rattle.rules.specs.Incompatible.{check-at, type-check, Deed, defines, repeats, deed-part, defined-names, self-set, Top, assigning, modifying, defining, loading, holding, aside, tops, top-part, deeds, First, first-of, times, defined, may-repeat, repeated, incompatible}
 use Rattle.spans.specs.Fit.{Fit, Each, Ordered}
 use Rattle.spans.proofs.Each.{Straight, If-some, either, join, listed-each}
 use Rattle.spans.proofs.Flow.{place-straight}
@@ -31,15 +31,15 @@ Done (repeats s) = Straight s
 abbrev Begun : First → Type 0
 Begun d = Straight (d .spot)
 
-deed-done : (z : Bind) (s : Spot) (k : Forest) → Straight s → Each Done (named 0 k) → Each Done (deed-part z s (λ v. named v k))
+deed-done : (z : Bind) (s : Spot) (k : Forest) → Straight s → Each Done (defined-names 0 k) → Each Done (deed-part z s (λ v. defined-names v k))
 deed-done (one o) s k p c = (p, tt)
 deed-done several s k p c = c
 deed-done nothing s k p c = tt
 
-named-done : (f : Forest) → Ordered f → (r : ℕ) → Each Done (named r f)
+named-done : (f : Forest) → Ordered f → (r : ℕ) → Each Done (defined-names r f)
 named-done leaf o r = tt
 named-done (node h k s) o r =
-    listed-each Done (eqb r (h .role)) (deed-part (bind-of h) (h .spot) (λ v. named v k)) (named r s)
+    listed-each Done (eqb r (h .role)) (deed-part (bind-of h) (h .spot) (λ v. defined-names v k)) (defined-names r s)
     (deed-done (bind-of h) (h .spot) k (o .0) (named-done k (o .1 .0) 0)) (named-done s (o .1 .1) r)
 
 cond-done : (b : Bool) (s : Spot) (l : List Deed) → Straight s → Each Done l → Each Done (cond b (repeats s ∷ []) l)
@@ -47,7 +47,7 @@ cond-done true s l p q = (p, tt)
 cond-done false s l p q = q
 
 top-done : (z : Top) (k : Forest) → Ordered k → Each Done (deeds k) → Each Done (top-part z k (deeds k))
-top-done assigning k o c = cond-done (self-set k) (place 5 k) (named 5 k) (place-straight k o 5) (named-done k o 5)
+top-done assigning k o c = cond-done (self-set k) (spot-at 5 k) (defined-names 5 k) (place-straight k o 5) (named-done k o 5)
 top-done modifying k o c = named-done k o 5
 top-done defining k o c = named-done k o 6
 top-done loading k o c = named-done k o 0
@@ -71,22 +71,22 @@ defined-fit (some d) l s ds on a b p c =
     (record { some-code = omega arith; a-code = omega arith; first = b; second = a; third = omega arith }, c ds p)
 
 module _ (free : ℕ → Bool) where
-  judge-fit : (es : List Deed) (ds : List First) (xs : List ℕ) → Each Done es → Each Begun ds → Each Fit (judge free es ds xs)
+  judge-fit : (es : List Deed) (ds : List First) (xs : List ℕ) → Each Done es → Each Begun ds → Each Fit (repeated free es ds xs)
   judge-fit [] ds xs p q = tt
   judge-fit (defines l s ∷ es) ds xs p q =
-      defined-fit (first-of (s .value) ds) l s ds (λ v. judge free es v xs) (first-begun (s .value) ds q) (p .0) q
+      defined-fit (first-of (s .value) ds) l s ds (λ v. repeated free es v xs) (first-begun (s .value) ds q) (p .0) q
       (λ v b. judge-fit es v xs (p .1) b)
   judge-fit (repeats s ∷ es) ds xs p q =
-      either (Each Fit) (may-repeat free (first-of (s .value) ds) (times (s .value) xs)) (judge free es ds (s .value ∷ xs))
-      (defined (first-of (s .value) ds) false s ds (λ v. judge free es v xs)) (judge-fit es ds (s .value ∷ xs) (p .1) q)
-      (defined-fit (first-of (s .value) ds) false s ds (λ v. judge free es v xs) (first-begun (s .value) ds q) (p .0) q
+      either (Each Fit) (may-repeat free (first-of (s .value) ds) (times (s .value) xs)) (repeated free es ds (s .value ∷ xs))
+      (defined (first-of (s .value) ds) false s ds (λ v. repeated free es v xs)) (judge-fit es ds (s .value ∷ xs) (p .1) q)
+      (defined-fit (first-of (s .value) ds) false s ds (λ v. repeated free es v xs) (first-begun (s .value) ds q) (p .0) q
       (λ v b. judge-fit es v xs (p .1) b))
 
 -- INCOMPATIBLE
 pub incompatible-fit : (free is-type names-type : ℕ → Bool) (f : Forest) → Ordered f → Each Fit (incompatible free is-type names-type f)
 incompatible-fit free is-type names-type f o =
-    join Fit (each (check-at is-type names-type) f) (judge free (deeds f) [] [])
+    join Fit (each (check-at is-type names-type) f) (repeated free (deeds f) [] [])
     (each-fit (check-at is-type names-type)
     (λ h k a b. listed-each Fit ((eqb 31 (h .kind) || eqb 32 (h .kind)) && type-check is-type names-type k)
-    (named-at 14 (with-value (h .spot) (place 2 k .value)) ∷ []) [] (omega arith) tt) f o)
+    (named-at 14 (with-value (h .spot) (spot-at 2 k .value)) ∷ []) [] (omega arith) tt) f o)
     (judge-fit free (deeds f) [] [] (deeds-done f o) tt)

@@ -7,9 +7,11 @@ use mathlib.Core.Bool.{true}
 use lib.Dec.{leb}
 use borrow.Author.Tests.{leb-true}
 use Rattle.tree.specs.Bytes.{nodeCount, valueCount, kindAt, beginAt, endAt}
-use Rattle.tree.specs.Nodes.{known, good6, bad6}
-use Rattle.tree.specs.Forest.{Part, headAt, spotAt, forestOf, treeOf}
-use Rattle.tree.specs.Judge.{judged, None6}
+use Rattle.tree.specs.Nodes.{known}
+use Rattle.tree.specs.code.Stages.{good6, bad6, None6}
+use Rattle.tree.specs.Forest.{headAt, spotAt, forestOf, treeOf}
+use Rattle.tree.specs.code.Part.{Part}
+use Rattle.tree.specs.Judge.{judged}
 use Rattle.tree.specs.declared.Facts.{Facts}
 use Rattle.tree.specs.declared.Judged.the-variants.{Valid}
 use Rattle.tree.proofs.Search.{lowest-clear, not-so}

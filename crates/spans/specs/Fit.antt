@@ -4,10 +4,11 @@ use Prim.Native.Nat.{_≤_}
 use mathlib.Core.List.{List, [], _∷_}
 use Rattle.tree.specs.Forest.{Forest, none, node}
 use Rattle.rules.specs.Record.{Rec}
+use Rattle.rules.specs.Joined.{codes}
 
 pub record Fit (r : Rec) : Type 0 where
   pub some-code : 1 ≤ r .code
-  pub a-code : r .code ≤ 17
+  pub a-code : r .code ≤ codes
   pub first : r .spot .begin ≤ r .spot .end
   pub second : r .second .begin ≤ r .second .end
   pub third : r .third .begin ≤ r .third .end

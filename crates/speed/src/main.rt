@@ -3,8 +3,14 @@
 // 2 flow, 3 incompatible, 4 dubious, 5 the joined call. compare/speed is the same over the Rust.
 use libc::STDOUT_FILENO;
 use rules::Answer;
+use rules::CODES;
 use rules::Outcome;
+use rules::WIDTH;
+use rules::WORK_WORDS;
 use tree::Mode;
+
+// The words of 2,048 records.
+const ROOM: usize = WIDTH * 2048;
 
 fn count(a: Answer) -> usize {
     let o = a.outcome;
@@ -16,7 +22,7 @@ fn count(a: Answer) -> usize {
 
 // One pass, or the joined call.
 fn listed(part: usize, t: &[u8], work: &mut [u16], out: &mut [u32]) -> usize {
-    let zero = [0usize; 17];
+    let zero = [0usize; CODES];
     if part == 1 {
         return count(names::names(t, work, out, zero));
     }
@@ -51,8 +57,8 @@ fn repeat(part: usize, repeats: usize, t: &[u8], work: &mut [u16], out: &mut [u3
 }
 
 fn file(part: usize, repeats: usize, t: &[u8]) {
-    let mut work = [0u16; 32768];
-    let mut out = [0u32; 16384];
+    let mut work = [0u16; WORK_WORDS];
+    let mut out = [0u32; ROOM];
     let n = repeat(part, repeats, t, &mut work, &mut out);
     io::print_decimal(STDOUT_FILENO, n as u64);
     io::write_all(STDOUT_FILENO, b"\n");

@@ -9,10 +9,11 @@ use lib.Dec.{T, leb, ltb, eqb, leb→le, ltb→lt, eqb→eq}
 use lib.ListN.{length}
 use borrow.Author.Tests.{leb-false, lt-ltb, eq-eqb, ne-eqb}
 use Rattle.tree.specs.Bytes.{pick, nodeAt, nodeCount, valueCount, globalCount, kindAt, sizeAt, beginAt, endAt, lastAt, valueAt}
-use Rattle.tree.specs.Values.{offset, isName, isLiteral, globalAt, bad9}
-use Rattle.tree.specs.Nodes.{limitOf, known, named, valueFits, good6, bad6}
-use Rattle.tree.specs.Judge.{listed, namesOf, notName}
-use Rattle.tree.specs.Sound.{Sound}
+use Rattle.tree.specs.Values.{offset}
+use Rattle.tree.specs.code.Stages.{isName, isLiteral, globalAt, bad9, valueFits, good6, bad6, namesOf, notName}
+use Rattle.tree.specs.Nodes.{limitOf, known, holds-name}
+use Rattle.tree.specs.Table.{listed}
+use Rattle.tree.specs.code.Sound.{Sound}
 use Rattle.tree.specs.declared.Facts.{Facts}
 use Rattle.tree.proofs.Search.{clash, lowest-clear, lowest-le, not-so}
 use Rattle.tree.proofs.Names.{or-left, or-right, name-test, literal-low}
@@ -32,7 +33,7 @@ unfolding namesOf
 names-fit {t} s = omega (arith, s .names, s .values, lowest-le (valueCount t) (notName t (nodeCount t)))
 
 -- a kind with a name is not a literal's
-named-not : (k : ℕ) → T (named k) → eqb k 21 ≡ false
+named-not : (k : ℕ) → T (holds-name k) → eqb k 21 ≡ false
 named-not k v = ne-eqb k 21 (λ q. rw q at v)
 
 fits-name : (a b : Bool) (x y z : Bool) → a ≡ false → T b → T (pick a x (pick b y z)) → T y
@@ -67,11 +68,11 @@ module _ {t : List ℕ} {f : Facts} (s : Sound t f) {i : ℕ} (h : i < nodeCount
       (right (leb 1 (sizeAt t i)) _ (right (eqb (lastAt t i) 0) _ (right (leb (beginAt t i) (endAt t i)) _ after-kind)))
 
   -- identifier, name, named parameter and loaded name: a name of the table
-  pub value-name : T (named (kindAt t i)) → T (isName t (nodeCount t) (valueCount t) (valueAt t i))
+  pub value-name : T (holds-name (kindAt t i)) → T (isName t (nodeCount t) (valueCount t) (valueAt t i))
   unfolding valueFits
-  value-name v = fits-name (eqb (kindAt t i) 21) (named (kindAt t i)) _ (isName t (nodeCount t) (valueCount t) (valueAt t i)) _ (named-not (kindAt t i) v) v fits
+  value-name v = fits-name (eqb (kindAt t i) 21) (holds-name (kindAt t i)) _ (isName t (nodeCount t) (valueCount t) (valueAt t i)) _ (named-not (kindAt t i) v) v fits
 
-  pub value-among-names : T (named (kindAt t i)) → valueAt t i < f .names
+  pub value-among-names : T (holds-name (kindAt t i)) → valueAt t i < f .names
   value-among-names v =
       let e = name-test t (nodeCount t) (valueCount t) (s .none5) (valueAt t i) in
       omega (arith, ltb→lt (valueAt t i) (namesOf t (nodeCount t) (valueCount t)) (rw e at (value-name v)), s .names)
@@ -92,9 +93,9 @@ module _ {t : List ℕ} {f : Facts} (s : Sound t f) {i : ℕ} (h : i < nodeCount
       go v (no d) = omega (arith, s .names)
 
   -- no other node has a value
-  pub value-none : T (not (named (kindAt t i))) → (kindAt t i ≡ 21 → ⊥) → valueAt t i ≡ 65535
+  pub value-none : T (not (holds-name (kindAt t i))) → (kindAt t i ≡ 21 → ⊥) → valueAt t i ≡ 65535
   unfolding valueFits
-  value-none v q = eqb→eq (valueAt t i) 65535 (fits-none (eqb (kindAt t i) 21) (named (kindAt t i)) _ _ (eqb (valueAt t i) 65535) (ne-eqb (kindAt t i) 21 q) v fits)
+  value-none v q = eqb→eq (valueAt t i) 65535 (fits-none (eqb (kindAt t i) 21) (holds-name (kindAt t i)) _ _ (eqb (valueAt t i) 65535) (ne-eqb (kindAt t i) 21 q) v fits)
 
 -- a global is a name of the table, above the one before it
 module _ {t : List ℕ} {f : Facts} (s : Sound t f) {i : ℕ} (h : i < listed (globalCount t)) where

@@ -9,8 +9,9 @@ use lib.ListN.{getD}
 use lib.Dec.{eqb, leb}
 use borrow.Author.Tests.{ne-eqb}
 use Rattle.tree.specs.Bytes.{pick, roleAt, kindAt}
-use Rattle.tree.specs.Children.{classOf, inClass, slotOf, allStand, ofRole, filled, allFilled}
-use Rattle.tree.specs.Packed.{rows, digitOf}
+use Rattle.tree.specs.Children.{classOf, inClass, slotOf}
+use Rattle.tree.specs.code.Kids.{allStand, ofRole, filled, allFilled}
+use Rattle.tree.specs.code.Packed.{rows, digitOf}
 use Rattle.tree.proofs.Kids.{filled-more}
 use Rattle.tree.proofs.Slots.{cut, cut-nothing, digit-far, class-list, least-list, most-list, class-at, least-at, most-at}
 

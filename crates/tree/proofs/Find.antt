@@ -7,9 +7,10 @@ use mathlib.Core.List.{List}
 use lib.Dec.{T, eqb, eqb→eq}
 use borrow.Author.Tests.{lt-ltb, le-ltb, eq-eqb, ne-eqb}
 use Rattle.tree.specs.Bytes.{roleAt, sizeAt}
-use Rattle.tree.specs.Forest.{none, node, headAt, forestOf, Part}
-use Rattle.tree.specs.Shape.{many, in-pairs}
-use Rattle.tree.specs.Find.{childIn, childOf, from-role}
+use Rattle.tree.specs.Forest.{none, node, headAt, forestOf}
+use Rattle.tree.specs.code.Part.{Part}
+use Rattle.tree.specs.Children.{many, in-pairs}
+use Rattle.tree.specs.code.Find.{childIn, childOf, from-role}
 use Rattle.tree.proofs.Shape.{left, right}
 use Rattle.tree.proofs.Laws.{later, sized, ended, rest, forest-none, forest-node, induct}
 

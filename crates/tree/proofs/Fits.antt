@@ -1,82 +1,32 @@
--- The children of a node, by number and in the forest, are the same: so a valid file's tree is valid. Assumes nothing.
-use Prim.Native.Nat.{ℕ, zero, suc, _+_, _-_, _≤_, _<_}
+-- The tree of a valid file is valid, as many nodes as the file says and no deeper than 48. Assumes nothing.
+use Prim.Native.Nat.{ℕ, _+_, _≤_, _<_}
 use native.Mathlib.Omega.{arith}
 use native.Mathlib.Decide.{decLt}
-use mathlib.Core.Path.{_≡_, refl, sym, ap, _∙_}
-use mathlib.Core.List.{[], List, _∷_}
-use mathlib.Core.Bool.{Bool, true, false}
+use mathlib.Core.Path.{_≡_, refl, ap, _∙_}
+use mathlib.Core.List.{List}
+use mathlib.Core.Bool.{Bool, true, false, _&&_, not}
 use lib.Dec.{T, eqb}
 use borrow.Author.Tests.{ltb-false, eq-eqb}
-use Rattle.tree.specs.Bytes.{pick, nodeCount, sizeAt, kindAt, roleAt}
-use Rattle.tree.specs.Nodes.{depthOf, bad8}
-use Rattle.tree.specs.Children.{Sized, kidsFrom, kidsOf, allStand, ofRole, allFilled, paired, forFirst, inOrder, good7, rootOk, bad7}
-use Rattle.tree.specs.Forest.{Forest, none, node, headAt, forestOf, treeOf, Part}
-use Rattle.tree.specs.Shape.{count, height, all-stand, many, all-filled, in-pairs, for-first, in-order, kids-fit, fitting, root-fits, valid}
-use Rattle.tree.specs.Sound.{Sound}
-use Rattle.tree.specs.Find.{Row}
+use Rattle.tree.specs.Bytes.{pick, nodeCount, sizeAt, kindAt}
+use Rattle.tree.specs.Nodes.{depthOf, too-deep}
+use Rattle.tree.specs.Children.{rootOk, kids-fit, wrong-children}
+use Rattle.tree.specs.code.Kids.{good7, bad7}
+use Rattle.tree.specs.Forest.{Forest, none, node, headAt, forestOf, treeOf}
+use Rattle.tree.specs.code.Part.{Part}
+use Rattle.tree.specs.code.Shape.{count, height, fitting, root-fits, valid}
+use Rattle.tree.specs.code.Sound.{Sound}
+use Rattle.tree.specs.code.Find.{Row}
 use Rattle.tree.specs.Judge.{judged}
 use Rattle.tree.specs.declared.Facts.{Facts}
 use Rattle.tree.specs.declared.Judged.the-variants.{Valid}
 use Rattle.tree.proofs.Search.{not-so}
 use Rattle.tree.proofs.Names.{and-left, and-right}
 use Rattle.tree.proofs.Above.{depth-zero}
-use Rattle.tree.proofs.Six.{seven}
-use Rattle.tree.proofs.Kids.{kids-end, kids-next}
+use Rattle.tree.proofs.Listed.{kids-same}
 use Rattle.tree.proofs.Laws.{later, sized, ended, kids, forest-none, forest-node, induct, count-of}
-use Rattle.tree.proofs.Rows.{part-sized, row-first, row-next, row-depth}
+use Rattle.tree.proofs.Rows.{row-first, row-next, row-depth}
 use Rattle.tree.proofs.Whole.{sound, whole-part}
 use Rattle.tree.proofs.Shape.{truth, valid-root, valid-fits, fits-here, fits-kids, fits-rest}
-
--- node numbers, and a forest whose topmost nodes they are
-data Lists (t : List ℕ) : List ℕ → Forest → Type 0 where
-  nil : Lists t [] none
-  cons : (c : ℕ) (k : Forest) {cs : List ℕ} {r : Forest} → Lists t cs r → Lists t (c ∷ cs) (node (headAt t c) k r)
-
-lists : {t : List ℕ} {i e : ℕ} → Sized t e → Part t i e → Lists t (kidsFrom t i e) (forestOf t i e)
-lists {t} s p = induct (λ i e. Sized t e → Lists t (kidsFrom t i e) (forestOf t i e)) t nothing more p s
-  where
-    nothing : (i e : ℕ) → e ≤ i → Sized t e → Lists t (kidsFrom t i e) (forestOf t i e)
-    nothing i e h s = rw (kids-end t i e h, forest-none t i e h) nil
-
-    more : (i e : ℕ) → Part t i e → i < e → (Sized t (i + sizeAt t i) → Lists t (kidsFrom t (i + 1) (i + sizeAt t i)) (forestOf t (i + 1) (i + sizeAt t i)))
-        → (Sized t e → Lists t (kidsFrom t (i + sizeAt t i) e) (forestOf t (i + sizeAt t i) e)) → Sized t e → Lists t (kidsFrom t i e) (forestOf t i e)
-    more i e p lt f g s = rw (kids-next t i e s lt, forest-node p lt) (cons i (forestOf t (i + 1) (i + sizeAt t i)) (g s))
-
-stand-same : (k : ℕ) {t : List ℕ} {cs : List ℕ} {f : Forest} → Lists t cs f → all-stand k f ≡ allStand t k cs
-unfolding all-stand allStand headAt
-stand-same k nil = refl
-stand-same k (cons c g l) = rw (stand-same k l)
-
-many-same : (r : ℕ) {t : List ℕ} {cs : List ℕ} {f : Forest} → Lists t cs f → many r f ≡ ofRole t r cs
-unfolding many ofRole headAt
-many-same r nil = refl
-many-same r (cons c g l) = rw (many-same r l)
-
-filled-same : (r k : ℕ) {t : List ℕ} {cs : List ℕ} {f : Forest} → Lists t cs f → all-filled r k f ≡ allFilled r t k cs
-unfolding all-filled allFilled
-filled-same zero k l = refl
-filled-same (suc r) k l = rw (filled-same r k l, many-same r l)
-
-pairs-same : (w : ℕ) {t : List ℕ} {cs : List ℕ} {f : Forest} → Lists t cs f → in-pairs w f ≡ paired t w cs
-unfolding in-pairs paired headAt
-pairs-same w nil = refl
-pairs-same w (cons c g l) = rw (pairs-same (12 - w) l)
-
-for-same : {t : List ℕ} {cs : List ℕ} {f : Forest} → Lists t cs f → for-first f ≡ forFirst t cs
-unfolding for-first forFirst headAt
-for-same nil = refl
-for-same {t} (cons c g l) = ap (λ (x : Bool). elim (eqb (roleAt t c) 0) as (λ b. Bool) [ true ↦ eqb (kindAt t c) 45 | false ↦ x ]) (for-same l)
-
-order-same : (k : ℕ) {t : List ℕ} {cs : List ℕ} {f : Forest} → Lists t cs f → in-order k f ≡ inOrder t k cs
-unfolding in-order inOrder
-order-same k l = rw (pairs-same 8 l, for-same l)
-
--- the forest below node p fits its kind exactly where 7 does not refuse p's children
-pub kids-same : {t : List ℕ} {n p : ℕ} → Part t 0 n → p < n → kids-fit (kindAt t p) (forestOf t (p + 1) (p + sizeAt t p)) ≡ good7 t p
-unfolding kids-fit good7 kidsOf
-kids-same {t} {n} {p} w h =
-    let l = lists (part-sized w h) (kids (later w (omega arith)) h) in
-    rw (stand-same (kindAt t p) l, filled-same 9 (kindAt t p) l, order-same (kindAt t p) l)
 
 -- no node is refused by 7
 good-kids : {t : List ℕ} {f : Facts} → Sound t f → (i : ℕ) → i < nodeCount t → good7 t i ≡ true
@@ -89,7 +39,7 @@ good-root {t} s = and-left (rootOk t (nodeCount t)) (good7 t 0) (not-so _ (s .no
 
 -- a node's children fit its kind
 pub kids-fitting : {t : List ℕ} {f : Facts} → Sound t f → (p : ℕ) → p < nodeCount t → T (kids-fit (kindAt t p) (forestOf t (p + 1) (p + sizeAt t p)))
-kids-fitting {t} {f} s p l = rw (kids-same (whole-part t f s) l, good-kids s p l) tt
+kids-fitting {t} {f} s p l = rw (kids-same t p, good-kids s p l) tt
 
 part-same : {t : List ℕ} {f : Facts} → Sound t f → {i e : ℕ} → Part t i e → e ≤ nodeCount t → fitting (forestOf t i e) ≡ true
 unfolding fitting headAt
@@ -101,10 +51,9 @@ part-same {t} {f} s p le = induct (λ i e. e ≤ nodeCount t → fitting (forest
     more : (i e : ℕ) → Part t i e → i < e → (i + sizeAt t i ≤ nodeCount t → fitting (forestOf t (i + 1) (i + sizeAt t i)) ≡ true)
         → (e ≤ nodeCount t → fitting (forestOf t (i + sizeAt t i) e) ≡ true) → e ≤ nodeCount t → fitting (forestOf t i e) ≡ true
     more i e p lt a b le =
-        let w = whole-part t f s in
         let l : i < nodeCount t = omega arith in
         rw (forest-node p lt)
-        (rw (kids-same w l ∙ good-kids s i l, a (omega (arith, ended p lt)), b le))
+        (rw (kids-same t i ∙ good-kids s i l, a (omega (arith, ended p lt)), b le))
 
 -- every part of a valid file fits
 pub part-fits : {t : List ℕ} {f : Facts} → Sound t f → {i e : ℕ} → Part t i e → e ≤ nodeCount t → T (fitting (forestOf t i e))
@@ -134,37 +83,57 @@ unfolding valid
 tree-valid t f e = let s = sound t f e in rw (root-same s, tree-fits s) tt
 
 -- and the other way: where the tree is valid, 7 refuses no node
-fits-good : {t : List ℕ} {n : ℕ} → Part t 0 n → {i e : ℕ} → Part t i e → e ≤ n → T (fitting (forestOf t i e)) → (j : ℕ) → i ≤ j → j < e → good7 t j ≡ true
+abbrev fit : List ℕ → ℕ → Bool
+fit t j = kids-fit (kindAt t j) (forestOf t (j + 1) (j + sizeAt t j))
+
+fits-good : {t : List ℕ} {i e : ℕ} → Part t i e → T (fitting (forestOf t i e)) → (j : ℕ) → i ≤ j → j < e → fit t j ≡ true
 unfolding headAt
-fits-good {t} {n} w p = induct (λ i e. e ≤ n → T (fitting (forestOf t i e)) → (j : ℕ) → i ≤ j → j < e → good7 t j ≡ true) t (λ i e h le v j a b. absurd (omega arith)) more p
+fits-good {t} p = induct (λ i e. T (fitting (forestOf t i e)) → (j : ℕ) → i ≤ j → j < e → fit t j ≡ true) t (λ i e h v j a b. absurd (omega arith)) more p
   where
     more : (i e : ℕ) → Part t i e → i < e
-        → (i + sizeAt t i ≤ n → T (fitting (forestOf t (i + 1) (i + sizeAt t i))) → (j : ℕ) → i + 1 ≤ j → j < i + sizeAt t i → good7 t j ≡ true)
-        → (e ≤ n → T (fitting (forestOf t (i + sizeAt t i) e)) → (j : ℕ) → i + sizeAt t i ≤ j → j < e → good7 t j ≡ true)
-        → e ≤ n → T (fitting (forestOf t i e)) → (j : ℕ) → i ≤ j → j < e → good7 t j ≡ true
-    more i e p lt f g le v j a b = go (decLt i j) (decLt j (i + sizeAt t i)) (rw (forest-node p lt) at v)
+        → (T (fitting (forestOf t (i + 1) (i + sizeAt t i))) → (j : ℕ) → i + 1 ≤ j → j < i + sizeAt t i → fit t j ≡ true)
+        → (T (fitting (forestOf t (i + sizeAt t i) e)) → (j : ℕ) → i + sizeAt t i ≤ j → j < e → fit t j ≡ true)
+        → T (fitting (forestOf t i e)) → (j : ℕ) → i ≤ j → j < e → fit t j ≡ true
+    more i e p lt f g v j a b = go (decLt i j) (decLt j (i + sizeAt t i)) (rw (forest-node p lt) at v)
       where
-        go : Dec (i < j) → Dec (j < i + sizeAt t i) → T (fitting (node (headAt t i) (forestOf t (i + 1) (i + sizeAt t i)) (forestOf t (i + sizeAt t i) e))) → good7 t j ≡ true
+        go : Dec (i < j) → Dec (j < i + sizeAt t i) → T (fitting (node (headAt t i) (forestOf t (i + 1) (i + sizeAt t i)) (forestOf t (i + sizeAt t i) e))) → fit t j ≡ true
         go (no x) y v =
             let q : j ≡ i = omega arith in
-            rw q (sym (kids-same w (omega arith)) ∙ truth _ (fits-here (headAt t i) (forestOf t (i + 1) (i + sizeAt t i)) _ v))
-        go (yes x) (yes y) v = f (omega (arith, ended p lt)) (fits-kids (headAt t i) _ _ v) j (omega arith) y
-        go (yes x) (no y) v = g le (fits-rest (headAt t i) _ _ v) j (omega arith) b
+            rw q (truth _ (fits-here (headAt t i) (forestOf t (i + 1) (i + sizeAt t i)) _ v))
+        go (yes x) (yes y) v = f (fits-kids (headAt t i) _ _ v) j (omega arith) y
+        go (yes x) (no y) v = g (fits-rest (headAt t i) _ _ v) j (omega arith) b
 
-pub valid-seven : {t : List ℕ} {n : ℕ} → Part t 0 n → 1 ≤ n → sizeAt t 0 ≡ n → T (valid (forestOf t 0 n)) → (i : ℕ) → i < n → bad7 t n i ≡ false
-unfolding bad7 rootOk root-fits headAt
-valid-seven {t} {n} w some e v i h =
-    let q : 0 + sizeAt t 0 ≡ n = omega arith in
-    let r = rw (forest-node w some, q, forest-none t n n (omega arith)) at (valid-root (forestOf t 0 n) v) in
-    let k : rootOk t n ≡ true = simp (eq-eqb (sizeAt t 0) n e) (truth _ r) in
-    rw (seven t n i k, fits-good w w (omega arith) (valid-fits (forestOf t 0 n) v) i (omega arith) h)
+pub valid-seven : (t : List ℕ) → Part t 0 (nodeCount t) → 1 ≤ nodeCount t → T (valid (treeOf t)) → (i : ℕ) → i < nodeCount t → wrong-children t i ≡ false
+unfolding treeOf wrong-children rootOk root-fits headAt
+valid-seven t w some v i h = seven (eqb i 0) (fits-good w (valid-fits (forestOf t 0 (nodeCount t)) v) i (omega arith) h)
+  where
+    root : T (root-fits (node (headAt t 0) (forestOf t (0 + 1) (0 + sizeAt t 0)) (forestOf t (0 + sizeAt t 0) (nodeCount t))))
+    root = rw (forest-node w some) at (valid-root (forestOf t 0 (nodeCount t)) v)
+
+    -- the root has no sibling: it reaches to the end
+    whole-size : Dec (0 + sizeAt t 0 < nodeCount t) → sizeAt t 0 ≡ nodeCount t
+    whole-size (yes l) = absurd (rw (forest-node (later w (omega arith)) l) at root)
+    whole-size (no l) = omega (arith, ended w some)
+
+    size : sizeAt t 0 ≡ nodeCount t
+    size = whole-size (decLt (0 + sizeAt t 0) (nodeCount t))
+
+    good : rootOk t (nodeCount t) ≡ true
+    good =
+        let q : 0 + sizeAt t 0 ≡ nodeCount t = omega (arith, size) in
+        let r = rw (q, forest-none t (nodeCount t) (nodeCount t) (omega arith)) at root in
+        simp (eq-eqb (sizeAt t 0) (nodeCount t) size) (truth _ r)
+
+    seven : (b : Bool) → fit t i ≡ true → not (pick b (rootOk t (nodeCount t)) true && fit t i) ≡ false
+    seven true e = rw (good, e)
+    seven false e = rw e
 
 pub tree-count : (t : List ℕ) (f : Facts) → judged t ≡ Valid f → count (treeOf t) ≡ f .nodes
 unfolding treeOf
 tree-count t f e = let s = sound t f e in let c = count-of (whole-part t f s) in let n = s .nodes in omega arith
 
 shallow : {t : List ℕ} {f : Facts} → Sound t f → (i : ℕ) → i < nodeCount t → depthOf t i ≤ 48
-unfolding bad8
+unfolding too-deep
 shallow {t} s i h = ltb-false 48 (depthOf t i) (s .none8 i h)
 
 -- from one of p's children on, no more levels than p's depth leaves

@@ -14,38 +14,17 @@ use lib.Dec.{eqb, leb, ltb, T, eqb→eq, eqb-refl, ltb→lt, lt→ltb, lit<}
 use lib.ListN.{length}
 use lib.Ieee.{nan, inf, binary64, ofBits, ofFields, odd}
 use lib.Ieee.Digits.{Equals, odd-val}
+pub use Rattle.base.proofs.Bools.{and-left, and-right, both}
+use Rattle.base.proofs.Bools.{or-cases, or-left, or-right}
 use Rattle.tree.specs.Values.{Value, Sense, a-name, a-text, an-integer, a-float, unknown, sense, onward, magnitude, little, no-zero-first, form-as, formed, bytes-before, by-length, precedes}
 use Rattle.tree.specs.declared.Mode.{Mode}
-use Rattle.tree.specs.Keys.{scaled, grains, finite, whole-if, whole, counts, only-if, counted, number-as, number, same-form, same-bytes, formed-alike, same-numbers, likeness, like, alike, same-key}
+use Rattle.tree.specs.Bytes.{same-bytes}
+use Rattle.tree.specs.Keys.{scaled, grains, finite, whole, counts, only-if, counted, number-as, number, same-form, formed-alike, same-numbers, likeness, like, alike, same-key}
 
 -- what a list of bytes is to a law that must know it
 abbrev pub all-bytes : List ℕ → Bool
 all-bytes [] = true
 all-bytes (b ∷ bs) = ltb b 256 && all-bytes bs
-
-pub and-left : (a b : Bool) → T (a && b) → T a
-and-left true b t = tt
-and-left false b t = t
-
-pub and-right : (a b : Bool) → T (a && b) → T b
-and-right true b t = t
-and-right false b t = absurd t
-
-pub both : (a b : Bool) → T a → T b → T (a && b)
-both true b t u = u
-both false b t u = t
-
-or-cases : (a b : Bool) → T (a || b) → T a ⊎ T b
-or-cases true b t = inl tt
-or-cases false b t = inr t
-
-or-left : (a b : Bool) → T a → T (a || b)
-or-left true b t = tt
-or-left false b t = absurd t
-
-or-right : (a b : Bool) → T b → T (a || b)
-or-right true b t = tt
-or-right false b t = t
 
 -- what the test means
 
@@ -223,7 +202,7 @@ exact g d n e f = sym (div-add-mod' g d) ∙ (ap (λ (x : ℕ). g / d * d + x) e
 pub whole-grains : (b n : ℕ) → whole b ≡ some n → T (finite b) × (grains b ≡ n * 2 ^ 1074)
 whole-grains b n e = go (finite b && eqb (grains b % 2 ^ 1074) 0) refl e
   where
-    go : (c : Bool) → (finite b && eqb (grains b % 2 ^ 1074) 0) ≡ c → whole-if c (grains b) ≡ some n → T (finite b) × (grains b ≡ n * 2 ^ 1074)
+    go : (c : Bool) → (finite b && eqb (grains b % 2 ^ 1074) 0) ≡ c → only-if c (grains b / 2 ^ 1074) ≡ some n → T (finite b) × (grains b ≡ n * 2 ^ 1074)
     go false p q = absurd (Option·none-ne-some n q)
     go true p q =
         let t : T (finite b && eqb (grains b % 2 ^ 1074) 0) = subst T (sym p) tt in (
@@ -357,7 +336,7 @@ grains-whole b n f e = go (finite b && eqb (grains b % 2 ^ 1074) 0) (both (finit
     zero-left : T (eqb (grains b % 2 ^ 1074) 0)
     zero-left = subst (λ (g : ℕ). T (eqb (g % 2 ^ 1074) 0)) (sym e) (subst (λ (g : ℕ). T (eqb g 0)) (sym (mul-mod-left n (2 ^ 1074))) tt)
 
-    go : (c : Bool) → T c → whole-if c (grains b) ≡ some n
+    go : (c : Bool) → T c → only-if c (grains b / 2 ^ 1074) ≡ some n
     go false t = absurd t
     go true t = ap {B = Option ℕ} (λ (x : ℕ). some (x / 2 ^ 1074)) e ∙ ap {B = Option ℕ} some (mul-div-left n {n = 2 ^ 1074} (lit< tt))
 

@@ -7,13 +7,14 @@ use mathlib.Core.Bool.{Bool, true, false}
 use mathlib.Core.Option.{some}
 use lib.Dec.{ltb}
 use borrow.Author.Tests.{eq-eqb, ne-eqb}
-use Rattle.tree.specs.Bytes.{u64At, nodeCount, valueCount, pick}
+use Rattle.tree.specs.Bytes.{nodeCount, valueCount, pick}
+use Rattle.tree.specs.code.Offsets.{u64At, capped, kindOf, lenOf}
 use Rattle.tree.specs.Search.{lowest}
 use Rattle.tree.specs.Values.{valueFrom, offset}
-use Rattle.tree.specs.Offsets.{capped, kindOf, lenOf}
 use Rattle.tree.specs.declared.Mode.{Mode}
 use Rattle.tree.specs.Keys.{whole, bound, counted}
-use Rattle.tree.specs.Table.{tableOf, at, below-or, is-integer, lead, key-number}
+use Rattle.tree.specs.Table.{tableOf, at}
+use Rattle.tree.specs.code.Numbers.{below-or, is-integer, lead, key-number}
 use Rattle.tree.proofs.Link.{length-from, little-eight}
 use Rattle.tree.proofs.TableLaws.{length-table, at-table, at-past}
 use Rattle.tree.proofs.WholeLaws.{counted-low, counted-high}

@@ -18,7 +18,8 @@ use Rattle.tree.specs.declared.Mode.{Mode}
 use Rattle.tree.specs.declared.Facts.{Facts}
 use Rattle.tree.specs.declared.Judged.the-variants.{Valid}
 use Rattle.tree.specs.Keys.{whole, counted, number-as, number, same-key}
-use Rattle.tree.specs.Table.{tableOf, at, below-or, integer-is, is-integer, if-so, float-number, lead, key-number}
+use Rattle.tree.specs.Table.{tableOf, at}
+use Rattle.tree.specs.code.Numbers.{below-or, integer-is, is-integer, if-so, float-number, lead, key-number}
 use Rattle.tree.proofs.Search.{clash, lowest-clear, lowest-hit, lowest-le}
 use Rattle.tree.proofs.TableLaws.{length-table, at-table, below-found, below-none}
 use Rattle.tree.proofs.KeyLaws.{all-bytes, and-left, and-right, both, Same, by-form, by-number, same-means, means-same, same-refl, same-sym, same-trans, one-form}

@@ -9,7 +9,8 @@ use mathlib.Core.Bool.{Bool, true, false, _&&_}
 use lib.Dec.{eqb}
 use borrow.Author.Tests.{lt-ltb, le-ltb, eq-eqb, ne-eqb}
 use Rattle.tree.specs.Bytes.{sizeAt, roleAt, kindAt}
-use Rattle.tree.specs.Children.{kidsIn, kidsFrom, Sized, slotOf, inClass, allStand, ofRole, filled, allFilled, paired, forFirst}
+use Rattle.tree.specs.Children.{slotOf, inClass}
+use Rattle.tree.specs.code.Kids.{kidsIn, kidsFrom, Sized, allStand, ofRole, filled, allFilled, paired, forFirst}
 
 kids-none : (k : ℕ) (t : List ℕ) (c e : ℕ) → e ≤ c → kidsIn k t c e ≡ []
 unfolding kidsIn

@@ -6,8 +6,9 @@ use mathlib.Core.Path.{_≡_, refl, sym, ap, ap₂, _∙_}
 use mathlib.Core.List.{List}
 use borrow.Author.Tests.{lt-ltb, le-ltb}
 use Rattle.tree.specs.Bytes.{sizeAt}
-use Rattle.tree.specs.Forest.{Forest, none, node, headAt, forestIn, forestOf, Part}
-use Rattle.tree.specs.Shape.{count}
+use Rattle.tree.specs.Forest.{Forest, none, node, headAt, forestIn, forestOf}
+use Rattle.tree.specs.code.Part.{Part}
+use Rattle.tree.specs.code.Shape.{count}
 
 -- from any later node on
 pub later : {t : List ℕ} {i e : ℕ} → Part t i e → {j : ℕ} → i ≤ j → Part t j e

@@ -20,7 +20,10 @@ pub mod Limits
 pub mod Above
 pub mod Kids
 pub mod Laws
+pub mod Fields
 pub mod Rows
+pub mod Listed
+pub mod Staged
 pub mod Whole
 pub mod Shape
 pub mod Classes

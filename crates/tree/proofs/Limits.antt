@@ -6,7 +6,8 @@ use mathlib.Core.Bool.{Bool, true, false, _||_}
 use lib.Dec.{leb, eqb}
 use borrow.Author.Tests.{leb-true}
 use Rattle.tree.specs.Bytes.{pick}
-use Rattle.tree.specs.Judge.{limits, listed}
+use Rattle.tree.specs.Judge.{limits}
+use Rattle.tree.specs.Table.{listed}
 use Rattle.tree.proofs.Names.{and-left, and-right}
 
 few : (g : ℕ) (b : Bool) → (leb g 512 || b) ≡ true → pick b 0 g ≤ 512

@@ -8,9 +8,9 @@ use mathlib.Core.Bool.{Bool, true, false, cond, _&&_, _||_, not}
 use lib.Dec.{leb, ltb, eqb, eqb·suc-zero}
 use lib.ListN.{length, getD}
 use borrow.Author.Tests.{lt-ltb, le-ltb, eq-eqb, ne-eqb, eqb-true}
-use Rattle.tree.specs.Bytes.{u16At, u32At, u64At, pick}
-use Rattle.tree.specs.Values.{a-name, a-text, an-integer, a-float, unknown, little, no-zero-first, form-as, formed, bytes-before, by-length, precedes, bytesFrom, valueFrom}
-use Rattle.tree.specs.Offsets.{kindOf, lenOf, formedAt, bytesLess, orderedAt}
+use Rattle.tree.specs.Bytes.{bytesFrom, u16At, u32At, pick}
+use Rattle.tree.specs.code.Offsets.{u64At, kindOf, lenOf, formedAt, bytesLess, orderedAt}
+use Rattle.tree.specs.Values.{a-name, a-text, an-integer, a-float, unknown, little, no-zero-first, form-as, formed, bytes-before, by-length, precedes, valueFrom}
 
 pub length-from : (k : ℕ) (t : List ℕ) (o : ℕ) → length (bytesFrom k t o) ≡ k
 length-from zero t o = refl

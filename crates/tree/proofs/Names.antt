@@ -8,9 +8,9 @@ use mathlib.Core.Bool.{Bool, true, false, _&&_, _||_, not}
 use lib.Dec.{ltb, leb, eqb}
 use borrow.Author.Tests.{lt-ltb, le-ltb, le-leb, lt-leb, eq-eqb, ne-eqb, eqb-true}
 use Rattle.tree.specs.Search.{lowest}
-use Rattle.tree.specs.Values.{offset, valueNo, formed, precedes, bad5, bad9, isName, isLiteral, globalAt}
-use Rattle.tree.specs.Offsets.{kindOf, lenOf, formedAt, orderedAt}
-use Rattle.tree.specs.Judge.{None5, notName, namesOf}
+use Rattle.tree.specs.Values.{offset, formed, precedes}
+use Rattle.tree.specs.code.Stages.{valueNo, bad5, bad9, isName, isLiteral, globalAt, None5, notName, namesOf}
+use Rattle.tree.specs.code.Offsets.{kindOf, lenOf, formedAt, orderedAt}
 use Rattle.tree.proofs.Link.{formed-from, precedes-from}
 use Rattle.tree.proofs.Search.{clash, lowest-clear, lowest-hit, lowest-le, not-so}
 

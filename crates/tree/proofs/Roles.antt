@@ -7,11 +7,11 @@ use mathlib.Core.List.{List}
 use mathlib.Core.Logic.{_⊎_, inl, inr}
 use lib.Dec.{T}
 use Rattle.tree.specs.Bytes.{nodeCount, sizeAt, kindAt, roleAt}
-use Rattle.tree.specs.Children.{inClass, Slot, slotOf}
-use Rattle.tree.specs.Forest.{headAt, forestOf, Part}
-use Rattle.tree.specs.Shape.{all-stand, many, in-pairs, for-first}
-use Rattle.tree.specs.Find.{Row, childOf, kidOf}
-use Rattle.tree.specs.Sound.{Sound}
+use Rattle.tree.specs.Children.{inClass, Slot, slotOf, all-stand, many, in-pairs, for-first}
+use Rattle.tree.specs.Forest.{headAt, forestOf}
+use Rattle.tree.specs.code.Part.{Part}
+use Rattle.tree.specs.code.Find.{Row, childOf, kidOf}
+use Rattle.tree.specs.code.Sound.{Sound}
 use Rattle.tree.specs.declared.Facts.{Facts}
 use Rattle.tree.proofs.Slots.{far-role}
 use Rattle.tree.proofs.Laws.{forest-node}

@@ -7,9 +7,9 @@ use mathlib.Core.List.{List}
 use borrow.Author.Tests.{lt-ltb, le-ltb}
 use Rattle.tree.specs.Bytes.{sizeAt}
 use Rattle.tree.specs.Nodes.{parentIn, parentOf, depthOf}
-use Rattle.tree.specs.Children.{Sized}
-use Rattle.tree.specs.Forest.{Part}
-use Rattle.tree.specs.Find.{Row}
+use Rattle.tree.specs.code.Kids.{Sized}
+use Rattle.tree.specs.code.Part.{Part}
+use Rattle.tree.specs.code.Find.{Row}
 use Rattle.tree.proofs.Laws.{later, kids}
 use Rattle.tree.proofs.Above.{parent-below, parent-above, depth-next}
 

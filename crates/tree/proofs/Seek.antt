@@ -6,7 +6,7 @@ use mathlib.Core.Path.{_≡_, refl, sym, _∙_}
 use mathlib.Core.List.{List}
 use borrow.Author.Tests.{lt-ltb, le-ltb, eq-eqb, ne-eqb}
 use Rattle.tree.specs.Bytes.{roleAt, sizeAt}
-use Rattle.tree.specs.Find.{childIn, childOf}
+use Rattle.tree.specs.code.Find.{childIn, childOf}
 
 module _ (t : List ℕ) (r : ℕ) where
   is-role : (x : ℕ) → Dec (x ≡ r)

@@ -6,10 +6,10 @@ use mathlib.Core.Path.{_≡_, refl, sym, ap, _∙_}
 use mathlib.Core.Bool.{Bool, true, false, _&&_}
 use lib.Dec.{T, leb, eqb, leb→le, eqb→eq}
 use borrow.Author.Tests.{eq-eqb, ne-eqb}
-use Rattle.tree.specs.Children.{inClass, slotOf}
+use Rattle.tree.specs.Children.{inClass, slotOf, all-stand, many, all-filled, in-pairs, for-first, in-order, kids-fit}
 use Rattle.tree.specs.Forest.{Head, Forest, none, node}
-use Rattle.tree.specs.Shape.{all-stand, many, all-filled, in-pairs, for-first, in-order, kids-fit, fitting, root-fits, valid}
-use Rattle.tree.specs.Find.{from-role}
+use Rattle.tree.specs.code.Shape.{fitting, root-fits, valid}
+use Rattle.tree.specs.code.Find.{from-role}
 
 pub both : (a b : Bool) → T a → T b → T (a && b)
 both true b s t = t

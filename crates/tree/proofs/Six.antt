@@ -8,9 +8,10 @@ use mathlib.Core.Bool.{Bool, true, false, _&&_, not}
 use lib.Dec.{leb, eqb}
 use borrow.Author.Tests.{leb-true, le-leb, lt-leb, eq-eqb, ne-eqb}
 use Rattle.tree.specs.Bytes.{kindAt, sizeAt, beginAt, endAt, lastAt, valueAt, pick}
-use Rattle.tree.specs.Nodes.{good6, bad6, known, limitOf, parentOf, valueFits}
-use Rattle.tree.specs.Children.{Sized, bad7, good7, rootOk}
-use Rattle.tree.specs.Judge.{None6}
+use Rattle.tree.specs.Nodes.{known, limitOf, parentOf}
+use Rattle.tree.specs.code.Stages.{good6, bad6, valueFits, None6}
+use Rattle.tree.specs.Children.{rootOk}
+use Rattle.tree.specs.code.Kids.{Sized, bad7, good7}
 use Rattle.tree.proofs.Search.{lowest-clear, not-so}
 use Rattle.tree.proofs.Names.{and-left, and-right}
 use Rattle.tree.proofs.Above.{parent-below, parent-above}

@@ -11,7 +11,7 @@ use native.Mathlib.Numerals.{add-one}
 use borrow.Author.Tests.{ne-eqb, lt-ltb, le-ltb}
 use Rattle.tree.specs.Bytes.{pick}
 use Rattle.tree.specs.Children.{Slot, slot, slots, slotsOf, slotIn, slotOf}
-use Rattle.tree.specs.Packed.{rows, digitOf}
+use Rattle.tree.specs.code.Packed.{rows, digitOf}
 use Rattle.tree.proofs.Table.{at}
 
 and-l : (a b : Bool) → T (a && b) → T a

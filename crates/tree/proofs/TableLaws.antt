@@ -10,11 +10,12 @@ use lib.ListN.{length, getD, set, drop, List·getD-eq-default, drop-of-length-le
 use lib.Seq.{drop-cons, getD-set-same, getD-set-other, ext-getD}
 use lib.Dec.{eqb}
 use borrow.Author.Tests.{lt-ltb, le-ltb, eq-eqb, ne-eqb}
-use Rattle.tree.specs.Bytes.{u16At, nodeCount, valueCount}
+use Rattle.tree.specs.Bytes.{bytesFrom, same-bytes, u16At, nodeCount, valueCount}
 use Rattle.tree.specs.Search.{lowest}
-use Rattle.tree.specs.Values.{onward, bytesFrom, valueNo, offset}
-use Rattle.tree.specs.Keys.{same-bytes}
-use Rattle.tree.specs.Table.{valuesFrom, tableOf, no-value, at, below-or, listed-from, Traits, KeyNumbers}
+use Rattle.tree.specs.Values.{onward, offset}
+use Rattle.tree.specs.code.Stages.{valueNo}
+use Rattle.tree.specs.Table.{valuesFrom, tableOf, no-value, at, listed-from}
+use Rattle.tree.specs.code.Numbers.{below-or, Traits, KeyNumbers}
 use Rattle.tree.specs.declared.Mode.{Mode}
 
 length-values : (k : ℕ) (t : List ℕ) (o : ℕ) → length (valuesFrom k t o) ≡ k

@@ -8,13 +8,15 @@ use mathlib.Core.Bool.{Bool, true, false}
 use lib.Dec.{T, eqb, ltb}
 use lib.ListN.{getD}
 use borrow.Author.Tests.{lt-ltb, eq-eqb, ne-eqb}
-use Rattle.tree.specs.Bytes.{nodeCount, valueCount}
+use Rattle.tree.specs.Bytes.{bytesFrom, nodeCount, valueCount}
 use Rattle.tree.specs.Search.{lowest}
-use Rattle.tree.specs.Values.{Value, formed, precedes, valueNo, bytesFrom}
-use Rattle.tree.specs.Judge.{None5, judged}
+use Rattle.tree.specs.Values.{Value, formed, precedes}
+use Rattle.tree.specs.code.Stages.{valueNo, None5}
+use Rattle.tree.specs.Judge.{judged}
 use Rattle.tree.specs.declared.Facts.{Facts}
 use Rattle.tree.specs.declared.Judged.the-variants.{Valid}
-use Rattle.tree.specs.Table.{tableOf, at, spells, numberNamed, below-or}
+use Rattle.tree.specs.Table.{tableOf, at, spells}
+use Rattle.tree.specs.code.Numbers.{numberNamed, below-or}
 use Rattle.tree.proofs.Search.{clash, lowest-clear, lowest-hit, lowest-le}
 use Rattle.tree.proofs.Names.{well-formed, in-order}
 use Rattle.tree.proofs.Whole.{sound}

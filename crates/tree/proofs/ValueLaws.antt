@@ -9,7 +9,7 @@ use lib.ListN.{getD}
 use borrow.Author.Tests.{lt-ltb, le-ltb}
 use Rattle.tree.specs.Bytes.{u16At, nodeAt}
 use Rattle.tree.specs.Values.{offset}
-use Rattle.tree.specs.Offsets.{bytesLess}
+use Rattle.tree.specs.code.Offsets.{bytesLess}
 
 pub offset-next : (t : List ℕ) (n i : ℕ) → offset t n (i + 1) ≡ offset t n i + 3 + u16At t (offset t n i + 1)
 unfolding offset

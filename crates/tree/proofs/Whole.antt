@@ -1,21 +1,24 @@
 -- A file that is judged valid: its record of facts, and its tree. Assumes nothing.
 use Prim.Native.Nat.{ℕ, _+_, _*_, _-_, _≤_, _<_}
 use native.Mathlib.Omega.{arith}
-use mathlib.Core.Path.{_≡_, refl, ap}
+use mathlib.Core.Path.{_≡_, refl, sym, ap, _∙_}
 use mathlib.Core.List.{List}
 use mathlib.Core.Bool.{Bool, true, false, _||_}
 use mathlib.Core.Logic.{_⊎_, inl, inr}
 use lib.Dec.{leb, ltb, eqb}
 use lib.ListN.{length}
 use borrow.Author.Tests.{ltb-false, leb-true, eqb-true}
-use Rattle.tree.specs.Bytes.{pick, u16At, nodeCount, valueCount, globalCount, sizeAt}
+use Rattle.tree.specs.Bytes.{pick, version, u16At, nodeCount, valueCount, globalCount, sizeAt}
 use Rattle.tree.specs.Search.{lowest}
-use Rattle.tree.specs.Values.{offset, bad5, bad9}
-use Rattle.tree.specs.Nodes.{bad6, bad8}
-use Rattle.tree.specs.Children.{bad7, good7, rootOk}
-use Rattle.tree.specs.Judge.{refuseAt, marked, listed, limits, factsOf, judged, judged3, judged4, judged5, judged6, judged7, judged8, judged9}
-use Rattle.tree.specs.Forest.{Part}
-use Rattle.tree.specs.Sound.{Sound}
+use Rattle.tree.specs.Values.{offset}
+use Rattle.tree.specs.code.Stages.{bad5, bad9, bad6, facts-at, staged, judged3, judged4, judged5, judged6, judged7, judged8, judged9}
+use Rattle.tree.specs.Nodes.{too-deep}
+use Rattle.tree.specs.Children.{rootOk}
+use Rattle.tree.specs.code.Kids.{bad7, good7}
+use Rattle.tree.specs.Judge.{refuseAt, marked, limits, factsOf, judged}
+use Rattle.tree.specs.Table.{listed}
+use Rattle.tree.specs.code.Part.{Part}
+use Rattle.tree.specs.code.Sound.{Sound}
 use Rattle.tree.specs.declared.Facts.{Facts}
 use Rattle.tree.specs.declared.Refusal.{Refusal}
 use Rattle.tree.specs.declared.Refusal.the-variants.{Mark, Version, Counts, Sections, Value, Node, Children, Depth, Global}
@@ -24,6 +27,7 @@ use Rattle.tree.specs.declared.Judged.the-variants.{Valid, Refused}
 use Rattle.tree.proofs.Search.{lowest-clear, not-so}
 use Rattle.tree.proofs.Names.{and-left, and-right}
 use Rattle.tree.proofs.Limits.{limits-facts}
+use Rattle.tree.proofs.Staged.{facts-same, staged-same}
 use Rattle.tree.proofs.Six.{six-sized, six-ends, six-nests}
 
 -- what is not refused is kept
@@ -38,8 +42,8 @@ passed why place n x f e = go (ltb place n) refl e
     go true q e = let z : _≡_ {A = ℕ} 0 1 = cc in absurd (omega arith)
     go false q e = (ltb-false place n q, e)
 
-facts-same : (a b : Facts) → Valid a ≡ Valid b → b ≡ a
-facts-same a b e = cc
+same-facts : (a b : Facts) → Valid a ≡ Valid b → b ≡ a
+same-facts a b e = cc
 
 given : (g : ℕ) (a b : Bool) → leb g 512 ≡ a → eqb g 65535 ≡ b → (a || b) ≡ true → (g ≤ 512) ⊎ (g ≡ 65535)
 given g true b p q e = inl (leb-true g 512 p)
@@ -55,7 +59,7 @@ root-size t n e = eqb-true _ _ (and-left (eqb (sizeAt t 0) n) _ (and-left (rootO
 
 -- the file behind the mark and the version
 sound3 : (t : List ℕ) (f : Facts) → judged3 t (nodeCount t) (valueCount t) (globalCount t) ≡ Valid f → Sound t f
-unfolding judged3 judged4 judged5 judged6 judged7 judged8 judged9 factsOf
+unfolding judged3 judged4 judged5 judged6 judged7 judged8 judged9 facts-at
 sound3 t f e =
     let n = nodeCount t in
     let nv = valueCount t in
@@ -65,13 +69,13 @@ sound3 t f e =
     let e5 = passed Value (lowest nv (bad5 t n)) nv (judged6 t n nv g) f (e4 .1) in
     let e6 = passed Node (lowest n (bad6 t n nv)) n (judged7 t n nv g) f (e5 .1) in
     let e7 = passed Children (lowest n (bad7 t n)) n (judged8 t n nv g) f (e6 .1) in
-    let e8 = passed Depth (lowest n (bad8 t)) n (judged9 t n nv g) f (e7 .1) in
-    let e9 = passed Global (lowest (listed g) (bad9 t n nv)) (listed g) (Valid (factsOf t n nv g)) f (e8 .1) in
-    let same = facts-same (factsOf t n nv g) f (e9 .1) in
+    let e8 = passed Depth (lowest n (too-deep t)) n (judged9 t n nv g) f (e7 .1) in
+    let e9 = passed Global (lowest (listed g) (bad9 t n nv)) (listed g) (Valid (facts-at t n nv g)) f (e8 .1) in
+    let same = same-facts (facts-at t n nv g) f (e9 .1) in
     let few = limits-facts n nv g (e3 .0) in
     let seven : (i : ℕ) → i < n → bad7 t n i ≡ false = λ i h. lowest-clear n (bad7 t n) i (omega arith) in
     record {
-      facts = same;
+      facts = same ∙ sym (facts-same t);
       nodes = ap (λ (x : Facts). x .nodes) same;
       values = ap (λ (x : Facts). x .values) same;
       names = ap (λ (x : Facts). x .names) same;
@@ -86,19 +90,19 @@ sound3 t f e =
       none5 = e5 .0;
       none6 = e6 .0;
       none7 = seven;
-      none8 = λ i h. lowest-clear n (bad8 t) i (omega arith);
+      none8 = λ i h. lowest-clear n (too-deep t) i (omega arith);
       none9 = λ i h. lowest-clear (listed g) (bad9 t n nv) i (omega arith);
       root = root-size t n (seven 0 (few .3));
     }
 
 pub sound : (t : List ℕ) (f : Facts) → judged t ≡ Valid f → Sound t f
-unfolding judged nodeCount valueCount globalCount
+unfolding staged nodeCount valueCount globalCount
 sound t f e =
-    let e1 = kept (marked t) _ Mark f e in
-    let e2 = kept (eqb (u16At t 3) 1) _ Version f (e1 .1) in
+    let e1 = kept (marked t) _ Mark f (sym (staged-same t) ∙ e) in
+    let e2 = kept (eqb (u16At t 3) version) _ Version f (e1 .1) in
     sound3 t f (e2 .1)
 
-pub valid-facts : (t : List ℕ) (f : Facts) → judged t ≡ Valid f → f ≡ factsOf t (nodeCount t) (valueCount t) (globalCount t)
+pub valid-facts : (t : List ℕ) (f : Facts) → judged t ≡ Valid f → f ≡ factsOf t
 valid-facts t f e = sound t f e .facts
 
 -- all nodes are one part

@@ -9,8 +9,8 @@ use lib.Dec.{eqb, T, lit<}
 use borrow.Author.Tests.{lt-ltb, le-ltb, ne-eqb, eq-eqb}
 use Rattle.tree.specs.declared.Mode.{Mode}
 use Rattle.tree.specs.declared.Mode.the-variants.{Ordinary, Strict}
-use Rattle.tree.specs.Keys.{scaled, grains, finite, whole-if, whole, bound, counted}
-use Rattle.tree.specs.Offsets.{capped}
+use Rattle.tree.specs.Keys.{scaled, grains, finite, only-if, whole, bound, counted}
+use Rattle.tree.specs.code.Offsets.{capped}
 use Rattle.tree.proofs.KeyLaws.{pow-pos, low-field, high-field, grains-whole}
 
 -- the digits with the leading one
@@ -21,9 +21,9 @@ full-below : (b : ℕ) → full b < 2 ^ 53
 full-below b = omega (arith, mod-lt b {m = 2 ^ 52} (lit< tt))
 
 not-whole : (b : ℕ) → (grains b % 2 ^ 1074 ≡ 0 → ⊥) → whole b ≡ none
-not-whole b d = ap (λ (c : Bool). whole-if (finite b && c) (grains b)) (ne-eqb (grains b % 2 ^ 1074) 0 d) ∙ go (finite b)
+not-whole b d = ap (λ (c : Bool). only-if (finite b && c) (grains b / 2 ^ 1074)) (ne-eqb (grains b % 2 ^ 1074) 0 d) ∙ go (finite b)
   where
-    go : (c : Bool) → whole-if (c && false) (grains b) ≡ none
+    go : (c : Bool) → only-if (c && false) (grains b / 2 ^ 1074) ≡ none
     go true = refl
     go false = refl
 
@@ -77,8 +77,8 @@ module _ (b : ℕ) (low : 1023 ≤ b / 2 ^ 52) (high : b / 2 ^ 52 ≤ 1075) wher
   whole-middle z =
       let r : grains b % 2 ^ 1074 ≡ 0 = left b below field-is below-le ∙ ap (λ (y : ℕ). y * 2 ^ below) (ap (λ (p : ℕ). full b % 2 ^ p) (sym point-is) ∙ z) ∙ none-of (2 ^ below) in
       let d : grains b / 2 ^ 1074 ≡ full b / 2 ^ (1075 - b / 2 ^ 52) = ap (λ (g : ℕ). g / 2 ^ 1074) (by-field b below field-is) ∙ low-field (b % 2 ^ 52) below below-le .0 ∙ ap (λ (p : ℕ). full b / 2 ^ p) (sym point-is) in
-      ap (λ (c : Bool). whole-if (c && eqb (grains b % 2 ^ 1074) 0) (grains b)) (lt-ltb (b / 2 ^ 52) 2047 (omega arith))
-      ∙ ap (λ (c : Bool). whole-if c (grains b)) (eq-eqb (grains b % 2 ^ 1074) 0 r)
+      ap (λ (c : Bool). only-if (c && eqb (grains b % 2 ^ 1074) 0) (grains b / 2 ^ 1074)) (lt-ltb (b / 2 ^ 52) 2047 (omega arith))
+      ∙ ap (λ (c : Bool). only-if c (grains b / 2 ^ 1074)) (eq-eqb (grains b % 2 ^ 1074) 0 r)
       ∙ ap {B = Option ℕ} some d
     where
       none-of : (x : ℕ) → 0 * x ≡ 0
@@ -102,7 +102,7 @@ pub whole-large : (b : ℕ) → 1075 < b / 2 ^ 52 → capped (whole b) ≡ 2 ^ 5
 whole-large b h = go (finite b) refl
   where
     go : (c : Bool) → finite b ≡ c → capped (whole b) ≡ 2 ^ 53
-    go false e = ap (λ (c : Bool). capped (whole-if (c && eqb (grains b % 2 ^ 1074) 0) (grains b))) e
+    go false e = ap (λ (c : Bool). capped (only-if (c && eqb (grains b % 2 ^ 1074) 0) (grains b / 2 ^ 1074))) e
     go true e =
         let d : ℕ = b / 2 ^ 52 - 1075 in
         let f : b / 2 ^ 52 ≡ suc (d + 1074) = omega arith in

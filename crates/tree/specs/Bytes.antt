@@ -1,17 +1,38 @@
--- Little-endian numbers of a list of bytes, and the fields of a node. Past the end every byte is 0. Assumes nothing.
-use Prim.Native.Nat.{ℕ, _+_, _*_}
-use mathlib.Core.List.{List}
-use mathlib.Core.Bool.{Bool, true, false}
-use lib.ListN.{getD}
+-- Fixed byte strings, little-endian numbers, the header and the fields of a node. Past the end every byte is 0. Assumes nothing.
+use Prim.Native.Nat.{ℕ, zero, suc, _+_, _*_}
+use mathlib.Core.List.{List, [], _∷_}
+use mathlib.Core.Bool.{Bool, true, false, _&&_}
+use lib.Dec.{eqb}
+use lib.ListN.{length, getD}
+pub use Rattle.base.specs.Ascii.{ascii}
+
+abbrev pub same-bytes : List ℕ → List ℕ → Bool
+same-bytes [] [] = true
+same-bytes [] (c ∷ cs) = false
+same-bytes (b ∷ bs) [] = false
+same-bytes (b ∷ bs) (c ∷ cs) = eqb b c && same-bytes bs cs
+
+-- the k bytes from o on
+abbrev pub bytesFrom : ℕ → List ℕ → ℕ → List ℕ
+bytesFrom zero t o = []
+bytesFrom (suc k) t o = getD t o 0 ∷ bytesFrom k t (o + 1)
+
+-- "A fixed byte string is compared at the start; names fail, type and None are compared alike": the bytes from o on are these
+abbrev pub stands-at : List ℕ → ℕ → List ℕ → Bool
+stands-at t o bs = same-bytes (bytesFrom (length bs) t o) bs
+
+-- "The mark is the three bytes SLT, then a 16-bit version"
+abbrev pub mark : List ℕ
+mark = ascii "SLT"
+
+abbrev pub version : ℕ
+version = 1
 
 unfoldable pub u16At : List ℕ → ℕ → ℕ
 u16At s at = getD s at 0 + 256 * getD s (at + 1) 0
 
 unfoldable pub u32At : List ℕ → ℕ → ℕ
 u32At s at = u16At s at + 65536 * u16At s (at + 2)
-
-unfoldable pub u64At : List ℕ → ℕ → ℕ
-u64At s at = u32At s at + 4294967296 * u32At s (at + 4)
 
 -- the header, after the mark and the version: how many nodes, values and globals (65535: globals not given)
 unfoldable pub nodeCount : List ℕ → ℕ

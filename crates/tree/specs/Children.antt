@@ -1,9 +1,10 @@
 -- 01, "Kinds and children": refusal 7. Assumes nothing.
-use Prim.Native.Nat.{ℕ, zero, suc, _+_, _-_, _≤_, _<_}
+use Prim.Native.Nat.{ℕ, zero, suc, _+_, _-_}
 use mathlib.Core.List.{[], List, _∷_}
 use mathlib.Core.Bool.{Bool, true, false, _&&_, not}
-use lib.Dec.{leb, ltb, eqb}
-use Rattle.tree.specs.Bytes.{kindAt, roleAt, sizeAt, pick}
+use lib.Dec.{leb, eqb}
+use Rattle.tree.specs.Bytes.{nodeCount, kindAt, roleAt, sizeAt, pick}
+use Rattle.tree.specs.Forest.{Forest, none, node, forestOf}
 
 -- classes of kinds: statement, expression, target, parameter, clause; loaded name, kind 47
 abbrev pub S : ℕ
@@ -117,60 +118,45 @@ slotIn r (s ∷ ss) = pick (eqb r (s .role)) s (slotIn r ss)
 unfoldable pub slotOf : ℕ → ℕ → Slot
 slotOf k r = slotIn r (slotsOf k slots)
 
--- every node below e has a size
-abbrev pub Sized : List ℕ → ℕ → Type 0
-Sized t e = (j : ℕ) → j < e → 1 ≤ sizeAt t j
+-- each child of a node of kind k is of the class that the slot of its role says
+unfoldable pub all-stand : ℕ → Forest → Bool
+all-stand k none = true
+all-stand k (node h kids rest) = inClass (slotOf k (h .role) .class) (h .kind) && all-stand k rest
 
--- children from node c on up to e, f at least their number
-unfoldable pub kidsIn : ℕ → List ℕ → ℕ → ℕ → List ℕ
-kidsIn zero t c e = []
-kidsIn (suc f) t c e = elim (ltb c e) [ true ↦ c ∷ kidsIn f t (c + sizeAt t c) e | false ↦ [] ]
+-- how many children have role r
+unfoldable pub many : ℕ → Forest → ℕ
+many r none = 0
+many r (node h kids rest) = pick (eqb (h .role) r) 1 0 + many r rest
 
-abbrev pub kidsFrom : List ℕ → ℕ → ℕ → List ℕ
-kidsFrom t c e = kidsIn (e - c) t c e
+-- of each role below r, as many children as the slot says at least and at most
+unfoldable pub all-filled : ℕ → ℕ → Forest → Bool
+all-filled zero k f = true
+all-filled (suc r) k f = all-filled r k f && (leb (slotOf k r .least) (many r f) && leb (many r f) (slotOf k r .most))
 
-unfoldable pub kidsOf : List ℕ → ℕ → List ℕ
-kidsOf t p = kidsFrom t (p + 1) (p + sizeAt t p)
+-- "pairs of key E8 and E4, key first": w is the role whose turn it is
+unfoldable pub in-pairs : ℕ → Forest → Bool
+in-pairs w none = eqb w 8
+in-pairs w (node h kids rest) = eqb (h .role) w && in-pairs (12 - w) rest
 
--- each child of a node of kind k stands in the slot of its role
-unfoldable pub allStand : List ℕ → ℕ → List ℕ → Bool
-allStand t k [] = true
-allStand t k (c ∷ cs) = inClass (slotOf k (roleAt t c) .class) (kindAt t c) && allStand t k cs
+-- "At least one clause, the first a for": clauses have role 0, a for is kind 45
+unfoldable pub for-first : Forest → Bool
+for-first none = true
+for-first (node h kids rest) = elim (eqb (h .role) 0) [ true ↦ eqb (h .kind) 45 | false ↦ for-first rest ]
 
--- how many have role r
-unfoldable pub ofRole : List ℕ → ℕ → List ℕ → ℕ
-ofRole t r [] = 0
-ofRole t r (c ∷ cs) = pick (eqb (roleAt t c) r) 1 0 + ofRole t r cs
+-- "Apart from dict and clauses, children may stand in any order."
+unfoldable pub in-order : ℕ → Forest → Bool
+in-order k f = pick (eqb k 29) (in-pairs 8 f) (pick (eqb k 25) (for-first f) (pick (eqb k 26) (for-first f) true))
 
-abbrev pub filled : List ℕ → ℕ → List ℕ → ℕ → Bool
-filled t k cs r = leb (slotOf k r .least) (ofRole t r cs) && leb (ofRole t r cs) (slotOf k r .most)
+-- the children of a node of kind k
+unfoldable pub kids-fit : ℕ → Forest → Bool
+kids-fit k f = all-stand k f && (all-filled 9 k f && in-order k f)
 
--- of each role below the number given, as many as the slot says (roles go from 0 to 8)
-unfoldable pub allFilled : ℕ → List ℕ → ℕ → List ℕ → Bool
-allFilled zero t k cs = true
-allFilled (suc r) t k cs = allFilled r t k cs && filled t k cs r
-
--- key, role 8, and value, role 4, in turn; w is whose turn it is
-unfoldable pub paired : List ℕ → ℕ → List ℕ → Bool
-paired t w [] = eqb w 8
-paired t w (c ∷ cs) = eqb (roleAt t c) w && paired t (12 - w) cs
-
--- the first clause is a for
-unfoldable pub forFirst : List ℕ → List ℕ → Bool
-forFirst t [] = true
-forFirst t (c ∷ cs) = elim (eqb (roleAt t c) 0) [ true ↦ eqb (kindAt t c) 45 | false ↦ forFirst t cs ]
-
-unfoldable pub inOrder : List ℕ → ℕ → List ℕ → Bool
-inOrder t k cs = pick (eqb k 29) (paired t 8 cs) (pick (eqb k 25) (forFirst t cs) (pick (eqb k 26) (forFirst t cs) true))
-
-unfoldable pub good7 : List ℕ → ℕ → Bool
-good7 t p =
-    allStand t (kindAt t p) (kidsOf t p)
-    && (allFilled 9 t (kindAt t p) (kidsOf t p) && inOrder t (kindAt t p) (kidsOf t p))
-
+-- "node 0 is a statement, role 0, its size the node count"
 unfoldable pub rootOk : List ℕ → ℕ → Bool
 rootOk t n = eqb (sizeAt t 0) n && (eqb (classOf (kindAt t 0)) 1 && eqb (roleAt t 0) 0)
 
 -- 7: node i
-unfoldable pub bad7 : List ℕ → ℕ → ℕ → Bool
-bad7 t n i = not (pick (eqb i 0) (rootOk t n) true && good7 t i)
+unfoldable pub wrong-children : List ℕ → ℕ → Bool
+wrong-children t i =
+    not (pick (eqb i 0) (rootOk t (nodeCount t)) true
+    && kids-fit (kindAt t i) (forestOf t (i + 1) (i + sizeAt t i)))

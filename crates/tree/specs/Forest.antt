@@ -1,5 +1,5 @@
 -- The tree of a file: what the rules of 01 recurse over. Assumes nothing.
-use Prim.Native.Nat.{ℕ, zero, suc, _+_, _-_, _≤_, _<_}
+use Prim.Native.Nat.{ℕ, zero, suc, _+_, _-_}
 use mathlib.Core.List.{List}
 use mathlib.Core.Bool.{true, false}
 use lib.Dec.{ltb}
@@ -44,10 +44,3 @@ forestOf t i e = forestIn (e - i) t i e
 -- the tree of a file: node 0 with what is below it
 unfoldable pub treeOf : List ℕ → Forest
 treeOf t = forestOf t 0 (nodeCount t)
-
--- For the code and its laws: the nodes from i up to e are whole subtrees, and so are those below each of them.
-pub record Part (t : List ℕ) (i e : ℕ) : Type 0 where
-  pub few : e ≤ 1024
-  pub some : (j : ℕ) → i ≤ j → j < e → 1 ≤ sizeAt t j
-  pub ends : (j : ℕ) → i ≤ j → j < e → j + sizeAt t j ≤ e
-  pub nest : (j k : ℕ) → i ≤ j → j < e → j < k → k < j + sizeAt t j → k + sizeAt t k ≤ j + sizeAt t j

@@ -1,9 +1,10 @@
 -- 01, "Keys": which numbers values stand for, and when two of them are the same key. Assumes nothing.
 use Prim.Native.Nat.{ℕ, zero, suc, _+_, _*_, _/_, _%_, _^_}
 use mathlib.Core.Bool.{Bool, true, false, _&&_}
-use mathlib.Core.List.{List, [], _∷_}
+use mathlib.Core.List.{List}
 use mathlib.Core.Option.{Option, none, some}
 use lib.Dec.{eqb, ltb}
+use Rattle.tree.specs.Bytes.{same-bytes}
 use Rattle.tree.specs.declared.Mode.{Mode}
 use Rattle.tree.specs.declared.Mode.the-variants.{Ordinary, Strict}
 use Rattle.tree.specs.Values.{Value, Sense, a-name, a-text, an-integer, a-float, unknown, sense, magnitude, little}
@@ -27,13 +28,13 @@ grains b = scaled (field b) (digits b)
 abbrev pub finite : ℕ → Bool
 finite b = ltb (field b) 2047
 
-abbrev pub whole-if : Bool → ℕ → Option ℕ
-whole-if true g = some (g / 2 ^ 1074)
-whole-if false g = none
+abbrev pub only-if : Bool → ℕ → Option ℕ
+only-if true n = some n
+only-if false n = none
 
 -- the whole number that a float is, if it is one
 abbrev pub whole : ℕ → Option ℕ
-whole b = whole-if (finite b && eqb (grains b % 2 ^ 1074) 0) (grains b)
+whole b = only-if (finite b && eqb (grains b % 2 ^ 1074) 0) (grains b / 2 ^ 1074)
 
 -- "A float that is a whole i32 is that integer"; strict: "a whole float below 2^53 equals the integer of that value"
 abbrev pub bound : Mode → ℕ
@@ -42,10 +43,6 @@ bound Strict = 2 ^ 53
 
 abbrev pub counts : Mode → ℕ → Bool
 counts m n = ltb n (bound m)
-
-abbrev pub only-if : Bool → ℕ → Option ℕ
-only-if true n = some n
-only-if false n = none
 
 abbrev pub counted : Mode → Option ℕ → Option ℕ
 counted m none = none
@@ -65,12 +62,6 @@ number m v = number-as m (sense (v .kind)) (v .bytes)
 -- the key test: different, the same form, the same number in two forms
 pub data Likeness : Type 0 where
   different same-form same-number : Likeness
-
-abbrev pub same-bytes : List ℕ → List ℕ → Bool
-same-bytes [] [] = true
-same-bytes [] (c ∷ cs) = false
-same-bytes (b ∷ bs) [] = false
-same-bytes (b ∷ bs) (c ∷ cs) = eqb b c && same-bytes bs cs
 
 abbrev pub formed-alike : Value → Value → Bool
 formed-alike v w = eqb (v .kind) (w .kind) && same-bytes (v .bytes) (w .bytes)

@@ -1,16 +1,12 @@
--- What the contracts of tree cite.
+-- What the contracts of tree cite. What a reader believes is in this folder; what only code and its laws need is in code/.
 pub mod Bytes
 pub mod Search
-pub mod Values
-pub mod Offsets
-pub mod Nodes
-pub mod Children
-pub mod Packed
-pub mod Judge
 pub mod Forest
+pub mod Values
 pub mod Keys
 pub mod Table
-pub mod Shape
-pub mod Sound
-pub mod Find
-pub mod Samples
+pub mod Nodes
+pub mod Children
+pub mod Judge
+pub mod Written
+pub mod code

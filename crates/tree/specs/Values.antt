@@ -1,10 +1,10 @@
--- 01, "Value: ..": what a value is, its form, the order of two, where it stands; globals. Assumes nothing.
-use Prim.Native.Nat.{ℕ, zero, suc, _+_, _*_, _-_, _^_}
+-- 01, "Value: ..": what a value is, its form, the order of two, where it stands. Assumes nothing.
+use Prim.Native.Nat.{ℕ, zero, suc, _+_, _*_, _^_}
 use mathlib.Core.List.{List, [], _∷_}
 use mathlib.Core.Bool.{Bool, true, false, cond, _&&_, _||_, not}
 use lib.ListN.{length, getD}
 use lib.Dec.{leb, ltb, eqb}
-use Rattle.tree.specs.Bytes.{u16At, nodeAt}
+use Rattle.tree.specs.Bytes.{bytesFrom, u16At, nodeAt}
 
 -- kinds: 0 name, 1 string, 2 bytes, 3 integer, 4 float
 pub record Value : Type 0 where
@@ -63,11 +63,6 @@ by-length bs cs = ltb (length bs) (length cs) || (eqb (length bs) (length cs) &&
 unfoldable pub precedes : Value → Value → Bool
 precedes v w = ltb (v .kind) (w .kind) || (eqb (v .kind) (w .kind) && by-length (v .bytes) (w .bytes))
 
--- the k bytes from o on
-abbrev pub bytesFrom : ℕ → List ℕ → ℕ → List ℕ
-bytesFrom zero t o = []
-bytesFrom (suc k) t o = getD t o 0 ∷ bytesFrom k t (o + 1)
-
 -- the value that starts at o: its kind, its length in two bytes, its bytes
 abbrev pub valueFrom : List ℕ → ℕ → Value
 valueFrom t o = record { kind = getD t o 0; bytes = bytesFrom (u16At t (o + 1)) t (o + 3) }
@@ -80,29 +75,3 @@ after t o = o + 3 + u16At t (o + 1)
 unfoldable pub offset : List ℕ → ℕ → ℕ → ℕ
 offset t n zero = nodeAt n
 offset t n (suc i) = after t (offset t n i)
-
--- value i, in a file of n nodes
-abbrev pub valueNo : List ℕ → ℕ → ℕ → Value
-valueNo t n i = valueFrom t (offset t n i)
-
--- 5: value i has a wrong form, or does not follow the one before it
-unfoldable pub bad5 : List ℕ → ℕ → ℕ → Bool
-bad5 t n i = not (formed (valueNo t n i)) || (ltb 0 i && not (precedes (valueNo t n (i - 1)) (valueNo t n i)))
-
--- value number v is one of the nv values, and a name
-abbrev pub isName : List ℕ → ℕ → ℕ → ℕ → Bool
-isName t n nv v = ltb v nv && eqb (valueNo t n v .kind) 0
-
--- ... and a string, bytes, an integer or a float
-abbrev pub isLiteral : List ℕ → ℕ → ℕ → ℕ → Bool
-isLiteral t n nv v = ltb v nv && (leb 1 (valueNo t n v .kind) && leb (valueNo t n v .kind) 4)
-
--- global i
-abbrev pub globalAt : List ℕ → ℕ → ℕ → ℕ → ℕ
-globalAt t n nv i = u16At t (offset t n nv + 2 * i)
-
--- 9: global i
-unfoldable pub bad9 : List ℕ → ℕ → ℕ → ℕ → Bool
-bad9 t n nv i =
-    not (isName t n nv (globalAt t n nv i))
-    || (ltb 0 i && leb (globalAt t n nv i) (globalAt t n nv (i - 1)))

@@ -1,8 +1,9 @@
 // Numbers and fields, read out of bytes: 0 past the end, so no reader asks anything of its caller.
 ghost use mathlib.Core.Path.{_≡_};
 ghost use Prim.Native.Nat.{_+_, _<_};
-ghost use lib.ListN.{getD};
-ghost use Rattle.tree.specs.Bytes.{u16At, u32At, u64At, nodeCount, valueCount, globalCount, nodeAt, kindAt, roleAt, sizeAt, beginAt, endAt, valueAt, lastAt};
+ghost use lib.ListN.{length, getD};
+ghost use Rattle.tree.specs.Bytes.{stands-at, u16At, u32At, nodeCount, valueCount, globalCount, nodeAt, kindAt, roleAt, sizeAt, beginAt, endAt, valueAt, lastAt};
+ghost use Rattle.tree.specs.code.Offsets.{u64At};
 
 fn wide(x: u8) -> usize
     ensures { λ r. ⌜ (r ≡ x) × (r < 256) ⌝ }
@@ -18,6 +19,21 @@ pub fn byte_at(s: &[u8], at: usize) -> usize
         return wide(s[at]);
     }
     0
+}
+
+// The bytes from o on are these: the mark of a file and fixed names are compared alike.
+pub(crate) fn bytes_are(t: &[u8], o: usize, name: &[u8]) -> bool
+    requires { ⌜ (length (now name) < 65536) × (o < 4400000000) ⌝ }
+    ensures { λ r. ⌜ r ≡ stands-at (now (t .entry)) o (now (name .entry)) ⌝ }
+{
+    let mut i = 0;
+    while i < name.len() {
+        if byte_at(t, o + i) != byte_at(name, i) {
+            return false;
+        }
+        i += 1;
+    }
+    true
 }
 
 pub fn u16_at(s: &[u8], at: usize) -> usize
@@ -144,7 +160,7 @@ pub(crate) fn narrow(x: usize) -> u16
     x as u16
 }
 
-pub(crate) fn widen(x: u16) -> usize
+pub fn widen(x: u16) -> usize
     ensures { λ r. ⌜ (r ≡ x) × (r < 65536) ⌝ }
 {
     x as usize

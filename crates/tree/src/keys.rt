@@ -3,12 +3,13 @@
 ghost use mathlib.Core.Path.{_≡_};
 ghost use Prim.Native.Nat.{_<_, _≤_, _^_};
 ghost use lib.Dec.{eqb};
-ghost use Rattle.tree.specs.Bytes.{nodeCount, valueCount};
+ghost use Rattle.tree.specs.Bytes.{bytesFrom, nodeCount, valueCount};
 ghost use Rattle.tree.specs.Search.{lowest};
-ghost use Rattle.tree.specs.Values.{magnitude, bytesFrom, valueFrom, offset};
+ghost use Rattle.tree.specs.Values.{magnitude, valueFrom, offset};
 ghost use Rattle.tree.specs.Keys.{bound, whole};
-ghost use Rattle.tree.specs.Offsets.{capped};
-ghost use Rattle.tree.specs.Table.{tableOf, integer-is, is-integer, below-or, key-number, KeyNumbers};
+ghost use Rattle.tree.specs.code.Offsets.{capped};
+ghost use Rattle.tree.specs.Table.{tableOf};
+ghost use Rattle.tree.specs.code.Numbers.{integer-is, is-integer, below-or, key-number, KeyNumbers};
 use crate::Mode;
 use crate::bytes::byte_at;
 use crate::bytes::narrow;

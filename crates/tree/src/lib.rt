@@ -4,7 +4,10 @@
 // What a pass asks of the values of a file that was judged is in lookup and keys, with its cost there.
 ghost use mathlib.Core.Path.{_≡_};
 ghost use Prim.Native.Nat.{_≤_};
-ghost use Rattle.tree.specs.Judge.{numberOf, placeOf, marked, listed, limits, judged9, judged8, judged7, judged6, judged5, judged4, judged3, judged, None5, None6};
+ghost use Rattle.tree.specs.Judge.{numberOf, placeOf, marked, limits, judged};
+ghost use Rattle.tree.specs.Table.{listed};
+ghost use Rattle.tree.specs.code.Stages.{judged9, judged8, judged7, judged6, judged5, judged4, judged3, None5, None6};
+use bytes::bytes_are;
 use bytes::u16_at;
 use children::first7;
 use nodes::first6;
@@ -21,6 +24,9 @@ pub mod keys;
 pub mod lookup;
 mod nodes;
 mod values;
+
+// The version of tree files that is judged.
+pub const VERSION: usize = 1;
 
 // What a valid file says of itself.
 pub struct Facts {
@@ -214,27 +220,17 @@ fn judge3(t: &[u8], n: usize, nv: usize, g: usize) -> Judged
 fn has_mark(t: &[u8]) -> bool
     ensures { λ r. ⌜ r ≡ marked (now (t .entry)) ⌝ }
 {
-    let m = b"SLT";
     if t.len() < 11 {
         return false;
     }
-    if t[0] != m[0] {
-        return false;
-    }
-    if t[1] != m[1] {
-        return false;
-    }
-    if t[2] != m[2] {
-        return false;
-    }
-    true
+    bytes_are(t, 0, b"SLT")
 }
 
 pub fn judge(t: &[u8]) -> Judged
     ensures { λ r. ⌜ r ≡ judged (now (t .entry)) ⌝ }
 {
     if has_mark(t) {
-        if u16_at(t, 3) == 1 {
+        if u16_at(t, 3) == VERSION {
             return judge3(t, u16_at(t, 5), u16_at(t, 7), u16_at(t, 9));
         }
         return refused(Refusal::Version);

@@ -5,32 +5,17 @@ ghost use mathlib.Core.Bool.{not};
 ghost use Prim.Native.Nat.{_<_};
 ghost use lib.Dec.{eqb};
 ghost use lib.ListN.{length};
-ghost use Rattle.tree.specs.Bytes.{nodeCount, globalCount};
-ghost use Rattle.tree.specs.Values.{bytesFrom, valueFrom, offset};
-ghost use Rattle.tree.specs.Keys.{same-bytes};
-ghost use Rattle.tree.specs.Judge.{listed};
-ghost use Rattle.tree.specs.Table.{tableOf, named-so, numberNamed, underscored, a-string, is-global, Traits};
+ghost use Rattle.tree.specs.Bytes.{bytesFrom, same-bytes, nodeCount, globalCount};
+ghost use Rattle.tree.specs.Values.{valueFrom, offset};
+ghost use Rattle.tree.specs.Table.{listed, tableOf, named-so, underscored, a-string, is-global};
+ghost use Rattle.tree.specs.code.Numbers.{numberNamed, Traits};
 use crate::bytes::byte_at;
+use crate::bytes::bytes_are;
 use crate::bytes::global_count;
 use crate::bytes::node_count;
 use crate::bytes::u16_at;
 use crate::bytes::value_count;
 use crate::values::offset_of;
-
-// The bytes from o on are those of name.
-fn bytes_are(t: &[u8], o: usize, name: &[u8]) -> bool
-    requires { ⌜ (length (now name) < 65536) × (o < 4400000000) ⌝ }
-    ensures { λ r. ⌜ r ≡ same-bytes (bytesFrom (length (now (name .entry))) (now (t .entry)) o) (now (name .entry)) ⌝ }
-{
-    let mut i = 0;
-    while i < name.len() {
-        if byte_at(t, o + i) != byte_at(name, i) {
-            return false;
-        }
-        i += 1;
-    }
-    true
-}
 
 // The value at o is the name of these bytes.
 fn spelled_at(t: &[u8], o: usize, name: &[u8]) -> bool

@@ -2,8 +2,8 @@
 ghost use mathlib.Core.Path.{_≡_};
 ghost use Prim.Native.Nat.{_<_, _≤_};
 ghost use Rattle.tree.specs.Search.{lowest};
-ghost use Rattle.tree.specs.Nodes.{parentOf, limitOf, known, valueFits, good6, bad6, bad8, named, Parents};
-ghost use Rattle.tree.specs.Judge.{namesOf, None5};
+ghost use Rattle.tree.specs.Nodes.{parentOf, limitOf, known, too-deep, holds-name};
+ghost use Rattle.tree.specs.code.Stages.{valueFits, good6, bad6, Parents, namesOf, None5};
 use crate::bytes::begin_at;
 use crate::bytes::end_at;
 use crate::bytes::kind_at;
@@ -81,7 +81,7 @@ fn is_known(k: usize) -> bool
 }
 
 fn has_name(k: usize) -> bool
-    ensures { λ r. ⌜ r ≡ named k ⌝ }
+    ensures { λ r. ⌜ r ≡ holds-name k ⌝ }
 {
     if k == 20 {
         return true;
@@ -154,7 +154,7 @@ pub(crate) fn first6(t: &[u8], n: usize, nv: usize, names: usize, par: &[u16; 10
 // 8.
 pub(crate) fn first8(t: &[u8], n: usize, par: &[u16; 1024]) -> usize
     requires { ⌜ (1 ≤ n) × (n ≤ 1024) × Parents (now t) n (now par) ⌝ }
-    ensures { λ r. ⌜ r ≡ lowest n (bad8 (now (t .entry))) ⌝ }
+    ensures { λ r. ⌜ r ≡ lowest n (too-deep (now (t .entry))) ⌝ }
 {
     let mut depth = [1u16; 1024];
     let mut i = 1;

@@ -2,9 +2,9 @@
 ghost use mathlib.Core.Path.{_≡_};
 ghost use Prim.Native.Nat.{_+_, _*_, _<_, _≤_};
 ghost use Rattle.tree.specs.Search.{lowest};
-ghost use Rattle.tree.specs.Values.{offset, bad5, bad9};
-ghost use Rattle.tree.specs.Offsets.{formedAt, bytesLess, orderedAt, integerOk, floatOk};
-ghost use Rattle.tree.specs.Judge.{namesOf, None5};
+ghost use Rattle.tree.specs.Values.{offset};
+ghost use Rattle.tree.specs.code.Stages.{bad5, bad9, namesOf, None5};
+ghost use Rattle.tree.specs.code.Offsets.{formedAt, bytesLess, orderedAt, integerOk, floatOk};
 use crate::bytes::byte_at;
 use crate::bytes::u16_at;
 use crate::bytes::u64_at;

@@ -1,7 +1,9 @@
 use native.Mathlib.Omega.{arith}
+use mathlib.Core.Path.{sym}
 use borrow.Author.Tests.{lt-ltb, le-ltb}
 use lib.ListN.{length-set}
-use Rattle.answer.specs.Page.{stored, store}
+use Rattle.answer.specs.Page.{stored}
+use Rattle.answer.proofs.Returns.{laid-out}
 use borrow.Author.Needs.{needs}
 use Rattle.answer.proofs.emit.Statement.{statement}
 use Rattle.answer.proofs.emit.Tie as tie
@@ -110,8 +112,8 @@ same-length c = search needs
 
 -- src/lib.rt:129:1
 returns : tie.Need-returns
-unfolding stored store
-returns c = rw (lt-ltb _ _ (c .if1 .taken), stored)
+unfolding stored
+returns c = rw (lt-ltb _ _ (c .if1 .taken), stored) (sym (laid-out _ _ _))
 
 -- src/lib.rt:129:1
 returns-2 : tie.Need-returns-2

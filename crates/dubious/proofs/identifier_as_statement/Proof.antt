@@ -2,9 +2,10 @@ use native.Mathlib.Omega.{arith}
 use borrow.Author.Needs.{needs}
 use Prim.Native.Nat.{ℕ, _+_, _-_, _≤_}
 use mathlib.Core.Path.{_≡_, refl, sym, ap, _∙_}
-use Rattle.tree.specs.Forest.{Part, forestOf}
+use Rattle.tree.specs.Forest.{forestOf}
+use Rattle.tree.specs.code.Part.{Part}
 use Rattle.tree.proofs.Laws.{later, first, sized}
-use Rattle.rules.specs.Incompatible.{each}
+use Rattle.rules.specs.Visit.{each}
 use Rattle.rules.specs.Dubious.{idle-at, dict-at, unsaid}
 use Rattle.dubious.specs.Scan.{keyed}
 use Rattle.answer.proofs.Flat.{Going, going, going-on, going-end}

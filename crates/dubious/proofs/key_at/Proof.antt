@@ -8,7 +8,6 @@ use Rattle.dubious.proofs.key_at.Statement.{statement}
 use Rattle.dubious.proofs.key_at.Tie as tie
 use Rattle.dubious.proofs.key_at.Reads as reads
 use Rattle.dubious.proofs.key_at.Lts as lts
-use Rattle.dubious.proofs.wide.Reads as wide-reads
 use Rattle.tree.proofs.bytes.value_at.Reads as value-at-reads
 
 -- src/lib.rt:45:9
@@ -16,21 +15,21 @@ value-at-requires : tie.Need-value-at-requires
 value-at-requires c κs = search needs
 
 -- src/lib.rt:47:21
-mul-wide : tie.Need-mul-wide
-mul-wide c = search needs
+mul-widen : tie.Need-mul-widen
+mul-widen c = search needs
 
 -- src/lib.rt:47:21
-shared-slice-read-wide : tie.Need-shared-slice-read-wide
-shared-slice-read-wide c = search needs
+shared-slice-read-widen : tie.Need-shared-slice-read-widen
+shared-slice-read-widen c = search needs
 
 -- src/lib.rt:47:9
-wide-requires : tie.Need-wide-requires
-wide-requires c κs = search needs
+widen-requires : tie.Need-widen-requires
+widen-requires c κs = search needs
 
 -- src/lib.rt:47:9
 returns : tie.Need-returns
 returns c =
-    c .wide .ensures ∙ ap (λ (v : ℕ). getD (c .before .before .before .before .before .before .args .numbers .now) v 0) (c .before .before .before .value-at .ensures .0)
+    c .widen .ensures .0 ∙ ap (λ (v : ℕ). getD (c .before .before .before .before .before .before .args .numbers .now) v 0) (c .before .before .before .value-at .ensures .0)
 
 -- src/lib.rt:42:1
 returns-2 : tie.Need-returns-2
@@ -40,4 +39,4 @@ returns-2 c =
 pub key-at-spec : {M : Type 1} → statement M
 key-at-spec =
     tie.close
-    (tie.spec value-at-requires mul-wide shared-slice-read-wide wide-requires returns returns-2)
+    (tie.spec value-at-requires mul-widen shared-slice-read-widen widen-requires returns returns-2)

@@ -2,7 +2,7 @@ use native.Mathlib.Omega.{arith}
 use borrow.Author.Needs.{needs}
 use Prim.Native.Nat.{ℕ, _+_, _-_, _≤_}
 use mathlib.Core.Path.{_≡_, sym, ap, _∙_}
-use Rattle.tree.specs.Forest.{Part}
+use Rattle.tree.specs.code.Part.{Part}
 use Rattle.tree.proofs.Laws.{rest, sized, ended}
 use Rattle.dubious.proofs.Steps.{Scanned, scan-start, scan-step, scan-end}
 use Rattle.dubious.proofs.previous.Statement.{statement}

@@ -1,10 +1,8 @@
 use mathlib.Core.Path.{sym, ap, _∙_}
-use Rattle.tree.specs.Judge.{judged}
 use Rattle.rules.specs.declared.Outcome.the-variants.{Refused}
 use Rattle.rules.specs.Incompatible.{incompatible-list}
 use Rattle.answer.specs.Refuse.{refusalOf}
 use Rattle.answer.proofs.Whole.{unfit-done}
-use borrow.Author.Needs.{needs}
 use borrow.Author.Needs.{needs}
 use Rattle.incompatible.proofs.incompatible.Statement.{statement}
 use Rattle.incompatible.proofs.incompatible.Tie as tie
@@ -27,7 +25,7 @@ refused-requires c κs = search needs
 returns : tie.Need-returns
 returns c =
     let t = c .before .before .before .before .before .before .before .args .t .now in
-    unfit-done (judged t) _ (incompatible-list t) (c .before .before .before .before .before .before .before .args .out .now) (c .before .before .before .before .before .before .before .args .tally) (c .refused .result)
+    unfit-done t _ (incompatible-list t) (c .before .before .before .before .before .before .before .args .out .now) (c .before .before .before .before .before .before .before .args .tally) (c .refused .result)
     (sym (c .before .before .before .before .judge .ensures) ∙ c .before .before .enum-told .given .1)
     (c .refused .ensures .0 ∙ ap Refused (c .before .refusal-of .ensures ∙ ap refusalOf (c .before .before .before .before .judge .ensures)))
     (c .refused .ensures .1)

@@ -5,11 +5,11 @@ use lib.ListN.{length}
 use Rattle.tree.specs.Judge.{judged}
 use Rattle.tree.specs.declared.Judged.the-variants.{Valid}
 use Rattle.tree.proofs.Whole.{whole}
+use Rattle.rules.specs.Record.{width}
 use Rattle.rules.specs.Incompatible.{incompatible-list}
 use Rattle.answer.specs.Page.{writes}
 use Rattle.answer.proofs.Whole.{no-front, short-done, listed-done}
 use Rattle.incompatible.proofs.Valid.{low-names, list-is, list-few}
-use borrow.Author.Needs.{needs}
 use borrow.Author.Needs.{needs}
 use Rattle.incompatible.proofs.lint_valid.Statement.{statement}
 use Rattle.incompatible.proofs.lint_valid.Tie as tie
@@ -44,11 +44,11 @@ returns c =
     let o = (c .before .before .before .before .before .before .before .before .before .before .args) .out .now in
     let v : judged t ≡ Valid ((c .before .before .before .before .before .before .before .before .before .before .args) .f) = (c .before .before .before .before .before .before .before .before .before .before .pre) in
     let q = no-front ((c .before .before .before .before .lint) .last .1 .1 .1 .0) o (omega (arith, (c .before .before .before .before .lint) .kept .1 .1 .1 .0)) in
-    let h : length o / 8 < (c .before .before .before .before .lint) .result .count = rw q at ((c .before .if1) .taken) in
+    let h : length o / width < (c .before .before .before .before .lint) .result .count = rw q at ((c .before .if1) .taken) in
     let l = list-is t _ v (λ k. omega (arith, (c .before .before .before .before .before .before .before .before .before .shared-slice-known) .given k)) ((c .before .before .before .before .before .before .before .types-of) .result) ((c .before .before .before .before .before .before .before .types-of) .ensures) in
     let few = list-few t _ v in
-    let z = short-done (judged t) _ v (incompatible-list t) few o ((c .before .before .before .before .before .before .before .before .before .before .args) .tally) _ _ ((c .before .before .before .before .before .started) .result) ((c .before .before .before .before .lint) .result) ((c .before .before .before .before .before .started) .ensures .0) ((c .before .before .before .before .lint) .ensures ∙ ap (writes _) (sym l)) ((c .refused) .result) h ((c .refused) .ensures .0) ((c .refused) .ensures .1) in
-    (z .0, q ∙ z .1)
+    let z = short-done t _ v (incompatible-list t) few o ((c .before .before .before .before .before .before .before .before .before .before .args) .tally) _ _ ((c .before .before .before .before .before .started) .result) ((c .before .before .before .before .lint) .result) ((c .before .before .before .before .before .started) .ensures .0) ((c .before .before .before .before .lint) .ensures ∙ ap (writes _) (sym l)) ((c .refused) .result) h ((c .refused) .ensures .0) ((c .refused) .ensures .1) in
+    rw q z
 
 started-requires-2 : tie.Need-started-requires-2
 started-requires-2 c κs = search needs
@@ -71,10 +71,10 @@ returns-2 c =
     let o = (c .before .before .before .before .before .before .before .before .before .before .before .before .before .before .before .args) .out .now in
     let v : judged t ≡ Valid ((c .before .before .before .before .before .before .before .before .before .before .before .before .before .before .before .args) .f) = (c .before .before .before .before .before .before .before .before .before .before .before .before .before .before .before .pre) in
     let q = no-front ((c .before .before .before .before .before .before .before .before .before .lint) .last .1 .1 .1 .0) o (omega (arith, (c .before .before .before .before .before .before .before .before .before .lint) .kept .1 .1 .1 .0)) in
-    let h : (c .before .before .before .before .before .before .before .before .before .lint) .result .count ≤ length o / 8 = rw q at ((c .before .before .before .before .before .before .if1) .left) in
+    let h : (c .before .before .before .before .before .before .before .before .before .lint) .result .count ≤ length o / width = rw q at ((c .before .before .before .before .before .before .if1) .left) in
     let l = list-is t _ v (λ k. omega (arith, (c .before .before .before .before .before .before .before .before .before .before .before .before .before .before .shared-slice-known) .given k)) ((c .before .before .before .before .before .before .before .before .before .before .before .before .types-of) .result) ((c .before .before .before .before .before .before .before .before .before .before .before .before .types-of) .ensures) in
     let few = list-few t _ v in
-    listed-done (judged t) _ v (incompatible-list t) few o ((c .before .before .before .before .before .before .before .before .before .before .before .before .before .before .before .args) .tally) _ _ ((c .before .before .before .before .before .before .before .before .before .before .started) .result) ((c .before .before .before .before .before .before .before .before .before .lint) .result) ((c .before .before .before .before .before .before .before .before .before .before .started) .ensures .0) ((c .before .before .before .before .before .before .before .before .before .lint) .ensures ∙ ap (writes _) (sym l)) ((c .listed) .result) _ ((c .before .before .before .before .started2) .result) ((c .before .before .before .lint2) .result) h ((c .before .before .before .before .started2) .ensures .0) ((c .before .before .before .before .started2) .ensures .1) ((rw q at ((c .before .before .before .lint2) .ensures)) ∙ ap (writes _) (sym l)) ((c .listed) .ensures .0) ((c .listed) .ensures .1)
+    listed-done t _ v (incompatible-list t) few o ((c .before .before .before .before .before .before .before .before .before .before .before .before .before .before .before .args) .tally) _ _ ((c .before .before .before .before .before .before .before .before .before .before .started) .result) ((c .before .before .before .before .before .before .before .before .before .lint) .result) ((c .before .before .before .before .before .before .before .before .before .before .started) .ensures .0) ((c .before .before .before .before .before .before .before .before .before .lint) .ensures ∙ ap (writes _) (sym l)) ((c .listed) .result) _ ((c .before .before .before .before .started2) .result) ((c .before .before .before .lint2) .result) h ((c .before .before .before .before .started2) .ensures .0) ((c .before .before .before .before .started2) .ensures .1) ((rw q at ((c .before .before .before .lint2) .ensures)) ∙ ap (writes _) (sym l)) ((c .listed) .ensures .0) ((c .listed) .ensures .1)
 
 pub lint-valid-spec : {M : Type 1} → statement M
 lint-valid-spec =

@@ -1,9 +1,8 @@
 use mathlib.Core.Path.{sym, ap, _∙_}
-use Rattle.tree.specs.Judge.{judged}
 use Rattle.rules.specs.declared.Outcome.the-variants.{Refused}
 use Rattle.rules.specs.Joined.{lint-list, no-tally}
 use Rattle.answer.specs.Refuse.{refusalOf}
-use Rattle.names.proofs.Telling.{unfit}
+use Rattle.answer.proofs.Whole.{unfit-with-work}
 use borrow.Author.Needs.{needs}
 use Rattle.lint.proofs.lint.Statement.{statement}
 use Rattle.lint.proofs.lint.Tie as tie
@@ -26,8 +25,8 @@ refused-requires c κs = search needs
 returns : tie.Need-returns
 returns c =
     let t = c .before .before .before .before .before .before .before .before .args .t .now in
-    unfit (judged t) (lint-list (c .before .before .before .before .before .before .before .before .args .mode) t) (c .before .before .before .before .before .before .before .before .args .work .now) (c .before .before .before .before .before .before .before .before .args .out .now) no-tally (c .refused .result)
-    _ (sym (c .before .before .before .before .judge .ensures) ∙ c .before .before .enum-told .given .1)
+    unfit-with-work t _ (lint-list (c .before .before .before .before .before .before .before .before .args .mode) t) (c .before .before .before .before .before .before .before .before .args .work .now) (c .before .before .before .before .before .before .before .before .args .out .now) no-tally (c .refused .result)
+    (sym (c .before .before .before .before .judge .ensures) ∙ c .before .before .enum-told .given .1)
     (c .refused .ensures .0 ∙ ap Refused (c .before .refusal-of .ensures ∙ ap refusalOf (c .before .before .before .before .judge .ensures)))
     (c .refused .ensures .1)
 

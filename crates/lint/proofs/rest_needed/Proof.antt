@@ -45,8 +45,8 @@ about-requires-2 c κs = search needs
 add-result : tie.Need-add-result
 add-result c =
     let s = c .before .before .before .before .before .before .before .before .before .before .before .before .before .before .before .before .pre in
-    let x = c .before .about .ensures ∙ about-list s (flow-list _) _ _ _ (c .before .before .before .before .before .before .before .before .before .before .before .before .lint-valid .ensures .0) in
-    let y = c .about2 .ensures ∙ about-list s (incompatible-list _) _ _ _ (c .before .before .before .before .before .before .before .before .lint-valid2 .ensures .0) in
+    let x = c .before .about .ensures ∙ about-list s (flow-list _) _ _ _ _ (c .before .before .before .before .before .before .before .before .before .before .before .before .lint-valid .ensures) in
+    let y = c .about2 .ensures ∙ about-list s (incompatible-list _) _ _ _ _ (c .before .before .before .before .before .before .before .before .lint-valid2 .ensures) in
     omega (arith, x, y, length-after-flow s (c .before .before .before .before .before .before .before .before .before .before .before .before .before .before .before .before .args .mode), length-after-names s (c .before .before .before .before .before .before .before .before .before .before .before .before .before .before .before .before .args .mode), few s (c .before .before .before .before .before .before .before .before .before .before .before .before .before .before .before .before .args .mode))
 
 about-requires-3 : tie.Need-about-requires-3
@@ -55,9 +55,9 @@ about-requires-3 c κs = search needs
 add-result-2 : tie.Need-add-result-2
 add-result-2 c =
     let s = c .before .before .before .before .before .before .before .before .before .before .before .before .before .before .before .before .before .pre in
-    let x = c .before .before .about .ensures ∙ about-list s (flow-list _) _ _ _ (c .before .before .before .before .before .before .before .before .before .before .before .before .before .lint-valid .ensures .0) in
-    let y = c .before .about2 .ensures ∙ about-list s (incompatible-list _) _ _ _ (c .before .before .before .before .before .before .before .before .before .lint-valid2 .ensures .0) in
-    let z = c .about3 .ensures ∙ about-list s (dubious-list _ _) _ _ _ (c .before .before .before .before .before .lint-valid3 .ensures .0) in
+    let x = c .before .before .about .ensures ∙ about-list s (flow-list _) _ _ _ _ (c .before .before .before .before .before .before .before .before .before .before .before .before .before .lint-valid .ensures) in
+    let y = c .before .about2 .ensures ∙ about-list s (incompatible-list _) _ _ _ _ (c .before .before .before .before .before .before .before .before .before .lint-valid2 .ensures) in
+    let z = c .about3 .ensures ∙ about-list s (dubious-list _ _) _ _ _ _ (c .before .before .before .before .before .lint-valid3 .ensures) in
     omega (arith, x, y, z, length-after-flow s (c .before .before .before .before .before .before .before .before .before .before .before .before .before .before .before .before .before .args .mode), length-after-names s (c .before .before .before .before .before .before .before .before .before .before .before .before .before .before .before .before .before .args .mode), few s (c .before .before .before .before .before .before .before .before .before .before .before .before .before .before .before .before .before .args .mode))
 
 same-length : tie.Need-same-length
@@ -67,9 +67,9 @@ returns : tie.Need-returns
 returns c =
     let s = c .before .before .before .before .before .before .before .before .before .before .before .before .before .before .before .before .before .pre in
     let o = c .before .before .before .before .before .before .before .before .before .before .before .before .before .before .before .before .before .args .out .now in
-    let x = c .before .before .about .ensures ∙ about-list s (flow-list _) _ _ _ (c .before .before .before .before .before .before .before .before .before .before .before .before .before .lint-valid .ensures .0) in
-    let y = c .before .about2 .ensures ∙ about-list s (incompatible-list _) _ _ _ (c .before .before .before .before .before .before .before .before .before .lint-valid2 .ensures .0) in
-    let z = c .about3 .ensures ∙ about-list s (dubious-list _ _) _ _ _ (c .before .before .before .before .before .lint-valid3 .ensures .0) in
+    let x = c .before .before .about .ensures ∙ about-list s (flow-list _) _ _ _ _ (c .before .before .before .before .before .before .before .before .before .before .before .before .before .lint-valid .ensures) in
+    let y = c .before .about2 .ensures ∙ about-list s (incompatible-list _) _ _ _ _ (c .before .before .before .before .before .before .before .before .before .lint-valid2 .ensures) in
+    let z = c .about3 .ensures ∙ about-list s (dubious-list _ _) _ _ _ _ (c .before .before .before .before .before .lint-valid3 .ensures) in
     let p = no-front (c .before .before .before .before .before .before .before .before .before .before .before .before .before .lint-valid .last .1 .1 .0) o (omega (arith, c .before .before .before .before .before .before .before .before .before .before .before .before .before .lint-valid .kept .1 .1 .0)) in
     let q = no-front (c .before .before .before .before .before .before .before .before .before .lint-valid2 .last .1 .1 .0) _ (omega (arith, c .before .before .before .before .before .before .before .before .before .lint-valid2 .kept .1 .1 .0)) in
     let r = no-front (c .before .before .before .before .before .lint-valid3 .last .1 .1 .1 .0) _ (omega (arith, c .before .before .before .before .before .lint-valid3 .kept .1 .1 .1 .0)) in

@@ -1,6 +1,6 @@
 -- The four parts of what is called, from the joined call's answer taken apart. Assumes nothing.
 use mathlib.Core.Path.{ap, _∙_}
-use Rattle.rules.specs.declared.Answer.{Answer}
+use Rattle.rules.specs.Calls.{Done-with-work}
 use Rattle.lint_c.specs.Face.{numberOf}
 use Rattle.lint_c.proofs.Laws.{told}
 use borrow.Author.Needs.{needs}
@@ -30,10 +30,10 @@ same-length-3 c = search needs
 
 returns : tie.Need-returns
 returns c =
-    let l = c .before .before .before .before .before .before .before .before .before .before .before .lint in
-    let n = c .number-of .ensures ∙ ap (λ (a : Answer). numberOf (a .outcome)) (l .ensures .0) in
-    let t = told _ _ _ _ _ (l .ensures .0) (c .before .before .before .before .before .place-of .ensures) (c .before .before .before .tell .ensures) in
-    λ i. record { number = n i; work = l .ensures .2 i; room = l .ensures .1 i; report = t i }
+    let e = c .before .before .before .before .before .before .before .before .before .before .before .lint .ensures in
+    let n = c .number-of .ensures ∙ ap (λ (d : Done-with-work). numberOf (d .answer .outcome)) e in
+    let t = told _ _ _ _ _ (ap (λ (d : Done-with-work). d .answer) e) (c .before .before .before .before .before .place-of .ensures) (c .before .before .before .tell .ensures) in
+    λ i. record { number = n i; work = e i .work; room = e i .room; report = t i }
 
 pub call-spec : {M : Type 1} → statement M
 call-spec =

@@ -1,6 +1,6 @@
 use mathlib.Core.Path.{sym}
 use Rattle.answer.specs.Note.{recOf, spanOf, valueOf}
-use Rattle.names.specs.State.{warningIn}
+use Rattle.scope.specs.State.{warningIn}
 use borrow.Author.Needs.{needs}
 use Rattle.names.proofs.told.Statement.{statement}
 use Rattle.names.proofs.told.Tie as tie

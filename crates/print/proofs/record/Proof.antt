@@ -2,16 +2,17 @@ use Prim.Native.Nat.{_-_, _*_, _≤_}
 use native.Mathlib.Omega.{arith}
 use mathlib.Core.Path.{_≡_}
 use lib.ListN.{length}
+use Rattle.rules.specs.Record.{width}
 use Rattle.io.proofs.Counting.{counts}
 use borrow.Author.Needs.{needs}
 use Rattle.print.proofs.record.Statement.{statement}
 use Rattle.print.proofs.record.Tie as tie
 
 abbrev Inv-loop : tie.InvT-loop
-Inv-loop out first line₀ at₀ k₀ line at k = (k ≤ 8) × (at ≤ 11 * k) × (length line ≡ 88)
+Inv-loop out first line₀ at₀ k₀ line at k = (k ≤ width) × (at ≤ 11 * k) × (length line ≡ width * 11)
 
 abbrev μ-loop : tie.MeasureT-loop
-μ-loop out first line₀ at₀ k₀ line at k = 8 - k
+μ-loop out first line₀ at₀ k₀ line at k = width - k
 
 loop-holds : tie.Need-loop-holds Inv-loop μ-loop
 loop-holds c = search needs

@@ -3,6 +3,7 @@ use lib.ListN.{length}
 use Prim.Native.Nat.{_*_, _≤_}
 use native.Mathlib.Nat.{le-div-iff-mul-le}
 use native.Mathlib.Omega.{arith}
+use Rattle.rules.specs.Record.{width}
 use borrow.Author.Needs.{needs}
 use Rattle.sarif.proofs.tell.Statement.{statement}
 use Rattle.sarif.proofs.tell.Tie as tie
@@ -46,7 +47,7 @@ mul-copy c =
 copy-requires : tie.Need-copy-requires
 copy-requires c κs =
     let a = c .before .before .before .before .before .before .before .before .before .before .before .before .before .args in
-    let m : a .n * 8 ≤ length (a .answer .now) = le-div-iff-mul-le {k = 8} {x = a .n} {y = length (a .answer .now)} (omega arith) .0 (c .before .before .before .before .before .before .before .before .if1 .left) in
+    let m : a .n * width ≤ length (a .answer .now) = le-div-iff-mul-le {k = width} {x = a .n} {y = length (a .answer .now)} (omega arith) .0 (c .before .before .before .before .before .before .before .before .if1 .left) in
     (c .before .before .before .before .before .before .before .before .before .before .before .before .before .pre .enough, omega arith)
 
 log-requires-2 : tie.Need-log-requires-2

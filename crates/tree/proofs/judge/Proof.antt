@@ -1,10 +1,17 @@
 use borrow.Author.Needs.{needs}
 use borrow.Author.Tests.{eq-eqb, ne-eqb}
-use Prim.Native.Nat.{_-_}
-use mathlib.Core.Path.{sym, _∙_}
+use Prim.Native.Nat.{ℕ, _-_}
+use mathlib.Core.Path.{_≡_, sym, _∙_}
+use mathlib.Core.List.{List}
 use Rattle.tree.specs.Judge.{judged}
+use Rattle.tree.specs.declared.Judged.{Judged}
+use Rattle.tree.specs.code.Stages.{staged}
+use Rattle.tree.proofs.Staged.{staged-same}
 use Rattle.tree.proofs.judge.Statement.{statement}
 use Rattle.tree.proofs.judge.Tie as tie
+
+as-staged : (t : List ℕ) {x : Judged} → x ≡ staged t → x ≡ judged t
+as-staged t e = e ∙ sym (staged-same t)
 
 has-mark-requires : tie.Need-has-mark-requires
 has-mark-requires c κs = search needs
@@ -25,25 +32,25 @@ judge3-requires : tie.Need-judge3-requires
 judge3-requires c κs = search needs
 
 returns : tie.Need-returns
-unfolding judged
+unfolding staged
 returns c =
-    c .judge3 .ensures ∙ simp (sym (c .before .before .before .before .before .before .before .has-mark .ensures) ∙ (c .before .before .before .before .before .before .if1 .taken), eq-eqb _ _ (sym (c .before .before .before .before .before .u16-at .ensures .0) ∙ (c .before .before .before .before .if2 .taken)), c .before .before .before .u16-at2 .ensures .0, c .before .before .u16-at3 .ensures .0, c .before .u16-at4 .ensures .0)
+    c .judge3 .ensures ∙ as-staged _ (simp (sym (c .before .before .before .before .before .before .before .has-mark .ensures) ∙ (c .before .before .before .before .before .before .if1 .taken), eq-eqb _ _ (sym (c .before .before .before .before .before .u16-at .ensures .0) ∙ (c .before .before .before .before .if2 .taken)), c .before .before .before .u16-at2 .ensures .0, c .before .before .u16-at3 .ensures .0, c .before .u16-at4 .ensures .0))
 
 refused-requires : tie.Need-refused-requires
 refused-requires c κs = search needs
 
 returns-2 : tie.Need-returns-2
-unfolding judged
+unfolding staged
 returns-2 c =
-    c .refused .ensures ∙ simp (sym (c .before .before .before .before .has-mark .ensures) ∙ (c .before .before .before .if1 .taken), ne-eqb _ _ (λ w. (c .before .if2 .left) (c .before .before .u16-at .ensures .0 ∙ w)))
+    c .refused .ensures ∙ as-staged _ (simp (sym (c .before .before .before .before .has-mark .ensures) ∙ (c .before .before .before .if1 .taken), ne-eqb _ _ (λ w. (c .before .if2 .left) (c .before .before .u16-at .ensures .0 ∙ w))))
 
 refused-requires-2 : tie.Need-refused-requires-2
 refused-requires-2 c κs = search needs
 
 returns-3 : tie.Need-returns-3
-unfolding judged
+unfolding staged
 returns-3 c =
-    c .refused2 .ensures ∙ simp (sym (c .before .before .has-mark .ensures) ∙ (c .before .if1 .left))
+    c .refused2 .ensures ∙ as-staged _ (simp (sym (c .before .before .has-mark .ensures) ∙ (c .before .if1 .left)))
 
 pub judge-spec : {M : Type 1} → statement M
 judge-spec =

@@ -1,7 +1,7 @@
 use borrow.Author.Needs.{needs}
 use Prim.Native.Nat.{_-_}
 use mathlib.Core.Path.{sym, _∙_}
-use Rattle.tree.specs.Judge.{judged3}
+use Rattle.tree.specs.code.Stages.{judged3}
 use Rattle.tree.proofs.Limits.{limits-facts}
 use Rattle.tree.proofs.judge3.Statement.{statement}
 use Rattle.tree.proofs.judge3.Tie as tie

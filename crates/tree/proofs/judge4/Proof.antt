@@ -5,7 +5,8 @@ use native.Mathlib.Omega.{arith}
 use mathlib.Core.Path.{_≡_, _∙_}
 use lib.ListN.{length}
 use Rattle.tree.specs.Values.{offset}
-use Rattle.tree.specs.Judge.{listed, judged4}
+use Rattle.tree.specs.Table.{listed}
+use Rattle.tree.specs.code.Stages.{judged4}
 use Rattle.tree.proofs.judge4.Statement.{statement}
 use Rattle.tree.proofs.judge4.Tie as tie
 

@@ -3,7 +3,7 @@ use borrow.Author.Tests.{lt-ltb, le-ltb}
 use Prim.Native.Nat.{_-_}
 use native.Mathlib.Omega.{arith}
 use mathlib.Core.Path.{_∙_}
-use Rattle.tree.specs.Judge.{judged5}
+use Rattle.tree.specs.code.Stages.{judged5}
 use Rattle.tree.proofs.judge5.Statement.{statement}
 use Rattle.tree.proofs.judge5.Tie as tie
 

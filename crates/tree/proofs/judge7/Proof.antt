@@ -2,7 +2,7 @@ use borrow.Author.Needs.{needs}
 use borrow.Author.Tests.{lt-ltb, le-ltb}
 use Prim.Native.Nat.{_-_}
 use mathlib.Core.Path.{_∙_}
-use Rattle.tree.specs.Judge.{judged7}
+use Rattle.tree.specs.code.Stages.{judged7}
 use Rattle.tree.proofs.judge7.Statement.{statement}
 use Rattle.tree.proofs.judge7.Tie as tie
 

@@ -4,8 +4,8 @@ use Prim.Native.Nat.{_-_, _≤_, _<_}
 use native.Mathlib.Omega.{arith}
 use mathlib.Core.Path.{_≡_, _∙_}
 use Rattle.tree.specs.Search.{lowest}
-use Rattle.tree.specs.Values.{bad9}
-use Rattle.tree.specs.Judge.{listed, factsOf, judged9}
+use Rattle.tree.specs.code.Stages.{bad9, facts-at, judged9}
+use Rattle.tree.specs.Table.{listed}
 use Rattle.tree.proofs.judge9.Statement.{statement}
 use Rattle.tree.proofs.judge9.Tie as tie
 
@@ -33,7 +33,7 @@ returns c =
     c .refused .ensures ∙ rw (← e) (simp (lt-ltb _ _ l))
 
 returns-2 : tie.Need-returns-2
-unfolding judged9 factsOf
+unfolding judged9 facts-at
 returns-2 c =
     let e : c .before .first9 .result ≡ lowest (listed ((c .before .before .before .before .before .before .args .g))) (bad9 ((c .before .before .before .before .before .before .args .t .now)) ((c .before .before .before .before .before .before .args .n)) ((c .before .before .before .before .before .before .args .nv))) = rw (c .before .before .listed-of .ensures) at (c .before .first9 .ensures) in
     let l : listed ((c .before .before .before .before .before .before .args .g)) ≤ c .before .first9 .result = omega (arith, c .before .before .listed-of .ensures, (c .if1 .left)) in

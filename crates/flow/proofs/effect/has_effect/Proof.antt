@@ -2,7 +2,8 @@ use native.Mathlib.Omega.{arith}
 use borrow.Author.Needs.{needs}
 use Prim.Native.Nat.{_-_}
 use mathlib.Core.Path.{_≡_, refl, sym, _∙_}
-use Rattle.tree.specs.Forest.{forestOf, Part}
+use Rattle.tree.specs.Forest.{forestOf}
+use Rattle.tree.specs.code.Part.{Part}
 use Rattle.tree.proofs.Laws.{sized, later}
 use Rattle.rules.specs.Flow.{effect}
 use Rattle.flow.specs.Walks.{is-text}

@@ -1,6 +1,7 @@
 use native.Mathlib.Omega.{arith}
 use Prim.Native.Nat.{_-_}
-use Rattle.tree.specs.Forest.{forestOf, Part}
+use Rattle.tree.specs.Forest.{forestOf}
+use Rattle.tree.specs.code.Part.{Part}
 use Rattle.tree.proofs.Laws.{sized, later}
 use Rattle.rules.specs.Flow.{effect-walk}
 use Rattle.answer.proofs.Flat.{Going, going, going-on, going-end}

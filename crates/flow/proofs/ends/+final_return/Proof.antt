@@ -10,7 +10,7 @@ use borrow.Fn.PlainCycle.{Measures, is, falls, and}
 use Rattle.flow.proofs.ends.final_return.Reads as final-return
 use Rattle.flow.proofs.ends.final_return.Kinds as final-return-kinds
 use Rattle.flow.proofs.ends.+final_return.Lts-final_return as final-return-lts
-use Rattle.flow.proofs.ends.is_fail.Reads as is-fail-reads
+use Rattle.fail.proofs.is_fail.Reads as is-fail-reads
 use Rattle.flow.proofs.last.last_of.Reads as last-of-reads
 use Rattle.tree.proofs.bytes.kind_at.Reads as kind-at-reads
 use Rattle.tree.proofs.bytes.size_at.Reads as size-at-reads
@@ -154,8 +154,7 @@ final-return-is-fail-requires : (t : ℕ) → final-return-lts.Need-is-fail-requ
   final-return-below t,
   final-return.Post,
 ) (final-return-at t) final-return.Post
-final-return-is-fail-requires t c κs =
-    rw (c .before .before .size-at .ensures .0) (kids (later (c .before .before .before .before .before .before .before .pre .1) (c .before .before .before .before .before .last-of .ensures .from (c .before .before .before .before .if1 .left))) (c .before .before .before .before .if1 .left))
+final-return-is-fail-requires t c κs = search needs
 
 -- src/ends.rt:89:9
 final-return-returns-3 : (t : ℕ) → final-return-lts.Need-returns-3 (
@@ -171,7 +170,7 @@ final-return-returns-3 : (t : ℕ) → final-return-lts.Need-returns-3 (
   final-return.Post,
 ) (final-return-at t) final-return.Post
 final-return-returns-3 t c =
-    (rw (c .before .before .before .size-at .ensures .0) at (c .is-fail .ensures)) ∙ ends-fail (λ v. eqb v (c .before .before .before .before .before .before .before .before .args .fail)) (c .before .before .before .before .before .before .last-of .ensures) (c .before .before .before .before .before .if1 .left) (sym (c .before .before .before .before .kind-at .ensures .0) ∙ c .before .if3 .taken)
+    (rw (c .before .before .before .size-at .ensures .0) at (c .is-fail .ensures)) (kids (later (c .before .before .before .before .before .before .before .before .pre .1) (c .before .before .before .before .before .before .last-of .ensures .from (c .before .before .before .before .before .if1 .left))) (c .before .before .before .before .before .if1 .left)) ∙ ends-fail (λ v. eqb v (c .before .before .before .before .before .before .before .before .args .fail)) (c .before .before .before .before .before .before .last-of .ensures) (c .before .before .before .before .before .if1 .left) (sym (c .before .before .before .before .kind-at .ensures .0) ∙ c .before .if3 .taken)
 
 -- src/ends.rt:92:41
 final-return-add-final-return : (t : ℕ) → final-return-lts.Need-add-final-return (

@@ -1,7 +1,7 @@
 use native.Mathlib.Omega.{arith}
 use borrow.Author.Needs.{needs}
 use Prim.Native.Nat.{_-_}
-use Rattle.tree.specs.Forest.{Part}
+use Rattle.tree.specs.code.Part.{Part}
 use Rattle.tree.proofs.Laws.{rest, sized, ended}
 use Rattle.flow.proofs.LastLaws.{Looked, looked-start, looked-step, looked-end}
 use Rattle.flow.proofs.last.last_of.Statement.{statement}

@@ -4,9 +4,10 @@ use Prim.Native.Nat.{_+_, _*_, _-_, _≤_}
 use mathlib.Core.Path.{_≡_, refl, sym, ap, _∙_}
 use mathlib.Core.Bool.{true, false}
 use Rattle.tree.specs.Bytes.{sizeAt}
-use Rattle.tree.specs.Forest.{forestOf, Part}
+use Rattle.tree.specs.Forest.{forestOf}
+use Rattle.tree.specs.code.Part.{Part}
 use Rattle.tree.proofs.Laws.{rest, sized, ended}
-use Rattle.rules.specs.Flow.{reach, in-list as in-a-list, each as each-one}
+use Rattle.rules.specs.Flow.{reached, in-list as in-a-list, one-by-one as each-one}
 use Rattle.answer.proofs.Flat.{Going, going, going-on}
 use Rattle.flow.specs.Walks.{is-name, left}
 use Rattle.flow.proofs.Steps.{whole-at, below}
@@ -29,7 +30,7 @@ use Rattle.flow.proofs.reach.+each+in_list+reachable+side+sides.Lts-sid
 use Rattle.flow.proofs.reach.sides.Reads as sides
 use Rattle.flow.proofs.reach.sides.Kinds as sides-kinds
 use Rattle.flow.proofs.reach.+each+in_list+reachable+side+sides.Lts-sides as sides-lts
-use Rattle.flow.proofs.ends.is_fail.Reads as is-fail-reads
+use Rattle.fail.proofs.is_fail.Reads as is-fail-reads
 use Rattle.flow.proofs.reach.both.Reads as both-reads
 use Rattle.flow.proofs.reach.goes_on.Reads as goes-on-reads
 use Rattle.flow.proofs.reach.stops.Reads as stops-reads
@@ -87,7 +88,7 @@ abbrev sides-below : ℕ → In 2 sides-kinds.ps
 sides-below t = and 2 sides-kinds.ps (falls 2 sides-kinds.ps _<_ μ-sides t) sides.Pre
 
 abbrev each-Inv-loop : each-lts.InvT-loop
-each-Inv-loop t fail i e out₀ sheet₀ j₀ out sheet j = Part t j e × (i ≤ j) × Going out₀ sheet₀ (reach (is-name fail) each-one (forestOf t i e) .recs) out sheet (reach (is-name fail) each-one (forestOf t j e) .recs)
+each-Inv-loop t fail i e out₀ sheet₀ j₀ out sheet j = Part t j e × (i ≤ j) × Going out₀ sheet₀ (reached (is-name fail) each-one (forestOf t i e) .recs) out sheet (reached (is-name fail) each-one (forestOf t j e) .recs)
 
 abbrev each-μ-loop : each-lts.MeasureT-loop
 each-μ-loop t fail i e out₀ sheet₀ j₀ out sheet j = e - j
@@ -139,7 +140,7 @@ each-returns t c =
     each-done (is-name (c .before .before .before .before .args .fail)) (c .before .before .before .before .args .t .now) (c .before .before .before .before .args .i) (c .before .loop .j) (c .before .before .before .before .args .e) (c .loop-test .left) (c .before .loop .inv .2)
 
 abbrev in-list-Inv-loop : in-list-lts.InvT-loop
-in-list-Inv-loop t fail i e out₀ sheet₀ aborts₀ j₀ out sheet aborts j = Part t j e × (i ≤ j) × Going out₀ sheet₀ (reach (is-name fail) in-a-list (forestOf t i e) .recs) out sheet (left (is-name fail) aborts (forestOf t j e) .recs) × (left (is-name fail) aborts (forestOf t j e) .stops ≡ reach (is-name fail) in-a-list (forestOf t i e) .stops)
+in-list-Inv-loop t fail i e out₀ sheet₀ aborts₀ j₀ out sheet aborts j = Part t j e × (i ≤ j) × Going out₀ sheet₀ (reached (is-name fail) in-a-list (forestOf t i e) .recs) out sheet (left (is-name fail) aborts (forestOf t j e) .recs) × (left (is-name fail) aborts (forestOf t j e) .stops ≡ reached (is-name fail) in-a-list (forestOf t i e) .stops)
 
 abbrev in-list-μ-loop : in-list-lts.MeasureT-loop
 in-list-μ-loop t fail i e out₀ sheet₀ aborts₀ j₀ out sheet aborts j = e - j
@@ -232,12 +233,11 @@ reachable-add-is-fail t c =
     omega (arith, c .before .before .before .before .before .before .before .pre .1 .part .few)
 
 reachable-is-fail-requires : (t : ℕ) → reachable-lts.Need-is-fail-requires (reachable-calls t) (reachable-at t) reachable.Post
-reachable-is-fail-requires t c κs =
-    rw (c .before .before .before .size-at .ensures .0) (below (c .before .before .before .before .before .before .before .pre .1))
+reachable-is-fail-requires t c κs = search needs
 
 reachable-returns-3 : (t : ℕ) → reachable-lts.Need-returns-3 (reachable-calls t) (reachable-at t) reachable.Post
 reachable-returns-3 t c =
-    walked-as (walked-still (c .before .before .before .before .before .before .before .before .args .out .now) (c .before .before .before .before .before .before .before .before .args .s) (c .is-fail .result)) (here-fails (is-name (c .before .before .before .before .before .before .before .before .args .fail)) (c .before .before .before .before .before .before .before .before .args .t .now) (c .before .before .before .before .before .before .before .before .args .i) (ap (λ (x : ℕ). c .before .before .before .before .before .before .before .before .args .i + x) (c .before .before .before .before .size-at .ensures .0)) (sym (c .before .before .before .before .before .kind-at .ensures .0) ∙ c .before .if3 .taken) (c .is-fail .ensures))
+    walked-as (walked-still (c .before .before .before .before .before .before .before .before .args .out .now) (c .before .before .before .before .before .before .before .before .args .s) (c .is-fail .result)) (here-fails (is-name (c .before .before .before .before .before .before .before .before .args .fail)) (c .before .before .before .before .before .before .before .before .args .t .now) (c .before .before .before .before .before .before .before .before .args .i) (ap (λ (x : ℕ). c .before .before .before .before .before .before .before .before .args .i + x) (c .before .before .before .before .size-at .ensures .0)) (sym (c .before .before .before .before .before .kind-at .ensures .0) ∙ c .before .if3 .taken) (c .is-fail .ensures (rw (c .before .before .before .before .size-at .ensures .0) (below (c .before .before .before .before .before .before .before .before .pre .1)))))
 
 reachable-stops-requires : (t : ℕ) → reachable-lts.Need-stops-requires (reachable-calls t) (reachable-at t) reachable.Post
 reachable-stops-requires t c κs = search needs

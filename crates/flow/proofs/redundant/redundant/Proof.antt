@@ -1,7 +1,8 @@
 use native.Mathlib.Omega.{arith}
 use Prim.Native.Nat.{_-_}
 use mathlib.Core.Path.{ap, _∙_}
-use Rattle.tree.specs.Forest.{forestOf, Part}
+use Rattle.tree.specs.Forest.{forestOf}
+use Rattle.tree.specs.code.Part.{Part}
 use Rattle.tree.proofs.Laws.{later}
 use Rattle.rules.specs.Flow.{redundant-walk}
 use Rattle.answer.proofs.Flat.{Going, going, going-on, going-end}

@@ -2,10 +2,11 @@ use native.Mathlib.Omega.{arith}
 use borrow.Author.Needs.{needs}
 use Prim.Native.Nat.{_-_}
 use Rattle.tree.specs.Bytes.{sizeAt}
-use Rattle.tree.specs.Forest.{Part, headAt, forestOf}
-use Rattle.rules.specs.Incompatible.{named}
+use Rattle.tree.specs.code.Part.{Part}
+use Rattle.tree.specs.Forest.{headAt, forestOf}
+use Rattle.rules.specs.Incompatible.{defined-names}
 use Rattle.incompatible.specs.Ground.{Low}
-use Rattle.incompatible.specs.Known.{is-several}
+use Rattle.incompatible.specs.Ledger.{is-several}
 use Rattle.incompatible.proofs.Told.{Telling, telling, telling-on, telling-end}
 use Rattle.incompatible.proofs.Deeds.{fewer, going-part, below-step, named-past}
 use Rattle.incompatible.proofs.assigns.below.Statement.{statement}
@@ -16,7 +17,7 @@ use Rattle.incompatible.proofs.assigns.below_at.Reads as below-at-reads
 use Rattle.incompatible.proofs.assigns.below_next.Reads as below-next-reads
 
 abbrev Inv-loop : tie.InvT-loop
-Inv-loop t i e out₀ r₀ j₀ out r j = Part t j e × Low t e × Telling t out₀ r₀ (named 0 (forestOf t i e)) out r (named 0 (forestOf t j e))
+Inv-loop t i e out₀ r₀ j₀ out r j = Part t j e × Low t e × Telling t out₀ r₀ (defined-names 0 (forestOf t i e)) out r (defined-names 0 (forestOf t j e))
 
 abbrev μ-loop : tie.MeasureT-loop
 μ-loop t i e out₀ r₀ j₀ out r j = e - j

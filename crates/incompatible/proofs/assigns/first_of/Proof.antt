@@ -6,19 +6,18 @@ use Rattle.incompatible.proofs.assigns.first_of.Statement.{statement}
 use Rattle.incompatible.proofs.assigns.first_of.Tie as tie
 use Rattle.incompatible.proofs.assigns.first_of.Reads as reads
 use Rattle.incompatible.proofs.assigns.first_of.Lts as lts
-use Rattle.incompatible.proofs.assigns.wide.Reads as wide-reads
 
 -- src/assigns.rt:42:21
-mul-wide : tie.Need-mul-wide
-mul-wide c = search needs
+mul-widen : tie.Need-mul-widen
+mul-widen c = search needs
 
 -- src/assigns.rt:42:21
-shared-slice-read-wide : tie.Need-shared-slice-read-wide
-shared-slice-read-wide c = search needs
+shared-slice-read-widen : tie.Need-shared-slice-read-widen
+shared-slice-read-widen c = search needs
 
 -- src/assigns.rt:42:9
-wide-requires : tie.Need-wide-requires
-wide-requires c κs = search needs
+widen-requires : tie.Need-widen-requires
+widen-requires c κs = search needs
 
 -- src/assigns.rt:42:9
 returns : tie.Need-returns
@@ -31,4 +30,4 @@ returns-2 c =
 
 pub first-of-spec : {M : Type 1} → statement M
 first-of-spec =
-    tie.close (tie.spec mul-wide shared-slice-read-wide wide-requires returns returns-2)
+    tie.close (tie.spec mul-widen shared-slice-read-widen widen-requires returns returns-2)

@@ -1,11 +1,12 @@
 use native.Mathlib.Omega.{arith}
 use Prim.Native.Nat.{_-_}
 use Rattle.tree.specs.Bytes.{kindAt}
-use Rattle.tree.specs.Forest.{Part, forestOf}
+use Rattle.tree.specs.Forest.{forestOf}
+use Rattle.tree.specs.code.Part.{Part}
 use Rattle.tree.proofs.Laws.{first, sized, ended}
 use Rattle.rules.specs.Incompatible.{deeds}
 use Rattle.incompatible.specs.Ground.{Low}
-use Rattle.incompatible.specs.Known.{goes-in, top-of}
+use Rattle.incompatible.specs.Ledger.{goes-in, top-of}
 use Rattle.incompatible.proofs.Told.{Telling, telling, telling-on, telling-end}
 use Rattle.incompatible.proofs.Deeds.{fewer, going-part, deeds-step, deeds-past}
 use borrow.Author.Needs.{needs}

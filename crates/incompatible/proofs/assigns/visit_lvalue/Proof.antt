@@ -1,9 +1,10 @@
 use native.Mathlib.Omega.{arith}
 use borrow.Author.Needs.{needs}
 use Prim.Native.Nat.{_-_}
-use Rattle.tree.specs.Forest.{Part, forestOf}
+use Rattle.tree.specs.Forest.{forestOf}
+use Rattle.tree.specs.code.Part.{Part}
 use Rattle.tree.proofs.Laws.{first, rest, sized, ended}
-use Rattle.rules.specs.Incompatible.{named}
+use Rattle.rules.specs.Incompatible.{defined-names}
 use Rattle.incompatible.specs.Ground.{Low}
 use Rattle.incompatible.proofs.Told.{Telling, telling, telling-on, telling-end}
 use Rattle.incompatible.proofs.Deeds.{fewer, named-over, named-past}
@@ -15,7 +16,7 @@ use Rattle.incompatible.proofs.assigns.lvalue.Reads as lvalue-reads
 use Rattle.tree.proofs.bytes.size_at.Reads as size-at-reads
 
 abbrev Inv-loop : tie.InvT-loop
-Inv-loop t role i e out₀ r₀ j₀ out r j = Part t j e × Low t e × Telling t out₀ r₀ (named role (forestOf t i e)) out r (named role (forestOf t j e))
+Inv-loop t role i e out₀ r₀ j₀ out r j = Part t j e × Low t e × Telling t out₀ r₀ (defined-names role (forestOf t i e)) out r (defined-names role (forestOf t j e))
 
 abbrev μ-loop : tie.MeasureT-loop
 μ-loop t role i e out₀ r₀ j₀ out r j = e - j

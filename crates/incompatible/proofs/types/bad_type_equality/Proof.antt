@@ -1,9 +1,11 @@
 use native.Mathlib.Omega.{arith}
 use borrow.Author.Needs.{needs}
 use Prim.Native.Nat.{_-_}
-use Rattle.tree.specs.Forest.{Part, forestOf}
+use Rattle.tree.specs.Forest.{forestOf}
+use Rattle.tree.specs.code.Part.{Part}
 use Rattle.tree.proofs.Laws.{later, first, sized}
-use Rattle.rules.specs.Incompatible.{each, check-at}
+use Rattle.rules.specs.Visit.{each}
+use Rattle.rules.specs.Incompatible.{check-at}
 use Rattle.answer.proofs.Flat.{Going, going, going-on, going-end}
 use Rattle.incompatible.specs.Five.{is, five}
 use Rattle.incompatible.proofs.Checks.{each-next, each-past}

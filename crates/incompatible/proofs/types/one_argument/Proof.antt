@@ -1,7 +1,7 @@
 use native.Mathlib.Omega.{arith}
 use Prim.Native.Nat.{ℕ, _+_}
 use mathlib.Core.Path.{ap, _∙_}
-use Rattle.tree.specs.Find.{childOf}
+use Rattle.tree.specs.code.Find.{childOf}
 use Rattle.incompatible.proofs.Checks.{tally-absent, one-is}
 use borrow.Author.Needs.{needs}
 use Rattle.incompatible.proofs.types.one_argument.Statement.{statement}

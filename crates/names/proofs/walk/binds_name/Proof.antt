@@ -1,6 +1,6 @@
 -- `binds_name` meets its contract. Assumes nothing.
 use Prim.Native.Nat.{_-_}
-use Rattle.names.proofs.Rows.{names-first, names-second, names-last}
+use Rattle.names.proofs.Rows.{names-first, names-second, names-third}
 use Rattle.names.proofs.walk.binds_name.Statement.{statement}
 use Rattle.names.proofs.walk.binds_name.Tie as tie
 
@@ -14,7 +14,7 @@ returns-2 c =
 
 returns-3 : tie.Need-returns-3
 returns-3 c =
-    names-last (c .before .if1 .left) (c .if2 .left)
+    names-third (c .before .if1 .left) (c .if2 .left)
 
 pub binds-name-spec : {M : Type 1} → statement M
 binds-name-spec = tie.close (tie.spec returns returns-2 returns-3)

@@ -1,6 +1,6 @@
 use borrow.Author.Needs.{needs}
 use Prim.Native.Nat.{_-_}
-use Rattle.tree.specs.Bytes.{u64At}
+use Rattle.tree.specs.code.Offsets.{u64At}
 use Rattle.tree.proofs.bytes.u64_at.Statement.{statement}
 use Rattle.tree.proofs.bytes.u64_at.Tie as tie
 

@@ -5,8 +5,8 @@ use native.Mathlib.Omega.{arith}
 use mathlib.Core.Path.{_≡_, sym, _∙_}
 use mathlib.Core.Bool.{true}
 use lib.ListN.{getD}
-use Rattle.tree.specs.Children.{kidsFrom, allFilled, filled}
-use Rattle.tree.specs.Packed.{rows}
+use Rattle.tree.specs.code.Kids.{kidsFrom, allFilled, filled}
+use Rattle.tree.specs.code.Packed.{rows}
 use Rattle.tree.proofs.Kids.{filled-none, filled-more, filled-not}
 use Rattle.tree.proofs.Slots.{cut, cut-none, cut-more, cut-here, digit-small}
 use Rattle.tree.proofs.Filled.{filled-far, filled-rest}

@@ -2,7 +2,7 @@ use borrow.Author.Needs.{needs}
 use Prim.Native.Nat.{_-_, _≤_}
 use native.Mathlib.Omega.{arith}
 use mathlib.Core.Path.{_≡_, refl, sym, _∙_}
-use Rattle.tree.specs.Children.{kidsFrom, paired}
+use Rattle.tree.specs.code.Kids.{kidsFrom, paired}
 use Rattle.tree.proofs.Kids.{pair-yes, pair-no, pair-end}
 use Rattle.tree.proofs.children.all_paired.Statement.{statement}
 use Rattle.tree.proofs.children.all_paired.Tie as tie

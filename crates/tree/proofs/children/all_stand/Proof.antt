@@ -4,7 +4,8 @@ use Prim.Native.Nat.{_-_}
 use native.Mathlib.Omega.{arith}
 use mathlib.Core.Path.{_≡_, refl, sym, _∙_}
 use Rattle.tree.specs.Bytes.{kindAt, roleAt}
-use Rattle.tree.specs.Children.{inClass, slotOf, kidsFrom, allStand}
+use Rattle.tree.specs.Children.{inClass, slotOf}
+use Rattle.tree.specs.code.Kids.{kidsFrom, allStand}
 use Rattle.tree.proofs.Kids.{stand-yes, stand-no, stand-end}
 use Rattle.tree.proofs.children.all_stand.Statement.{statement}
 use Rattle.tree.proofs.children.all_stand.Tie as tie

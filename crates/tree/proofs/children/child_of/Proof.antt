@@ -3,7 +3,7 @@ use Prim.Native.Nat.{_+_, _-_}
 use native.Mathlib.Omega.{arith}
 use mathlib.Core.Path.{_≡_, refl, sym, _∙_}
 use Rattle.tree.specs.Bytes.{sizeAt}
-use Rattle.tree.specs.Find.{childOf}
+use Rattle.tree.specs.code.Find.{childOf}
 use Rattle.tree.proofs.Seek.{seek-past, seek-here, seek-zero, seek-next}
 use Rattle.tree.proofs.children.child_of.Statement.{statement}
 use Rattle.tree.proofs.children.child_of.Tie as tie

@@ -4,7 +4,7 @@ use Prim.Native.Nat.{_-_, _≤_}
 use native.Mathlib.Omega.{arith}
 use mathlib.Core.Path.{_≡_, sym, _∙_}
 use Rattle.tree.specs.Search.{first, lowest}
-use Rattle.tree.specs.Children.{bad7}
+use Rattle.tree.specs.code.Kids.{bad7}
 use Rattle.tree.proofs.Search.{first-start, first-here, first-next, first-end}
 use Rattle.tree.proofs.Six.{six-sized, six-ends, seven, seven-root}
 use Rattle.tree.proofs.children.first7.Statement.{statement}

@@ -2,7 +2,7 @@ use borrow.Author.Needs.{needs}
 use Prim.Native.Nat.{_-_}
 use native.Mathlib.Omega.{arith}
 use mathlib.Core.Path.{_≡_, refl, sym, _∙_}
-use Rattle.tree.specs.Children.{kidsFrom, forFirst}
+use Rattle.tree.specs.code.Kids.{kidsFrom, forFirst}
 use Rattle.tree.proofs.Kids.{for-yes, for-no, for-end}
 use Rattle.tree.proofs.children.for_first.Statement.{statement}
 use Rattle.tree.proofs.children.for_first.Tie as tie

@@ -3,7 +3,7 @@ use borrow.Author.Tests.{not-true, not-false}
 use Prim.Native.Nat.{_-_}
 use native.Mathlib.Omega.{arith}
 use mathlib.Core.Path.{sym, _∙_}
-use Rattle.tree.specs.Children.{kidsOf, good7}
+use Rattle.tree.specs.code.Kids.{kidsOf, good7}
 use Rattle.tree.proofs.children.kids_ok.Statement.{statement}
 use Rattle.tree.proofs.children.kids_ok.Tie as tie
 

@@ -2,7 +2,7 @@ use borrow.Author.Needs.{needs}
 use borrow.Author.Tests.{eq-eqb, ne-eqb}
 use Prim.Native.Nat.{_-_}
 use mathlib.Core.Path.{_∙_}
-use Rattle.tree.specs.Children.{inOrder}
+use Rattle.tree.specs.code.Kids.{inOrder}
 use Rattle.tree.proofs.children.kids_ordered.Statement.{statement}
 use Rattle.tree.proofs.children.kids_ordered.Tie as tie
 

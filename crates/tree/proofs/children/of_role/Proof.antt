@@ -3,7 +3,7 @@ use Prim.Native.Nat.{_+_, _-_, _≤_}
 use native.Mathlib.Omega.{arith}
 use mathlib.Core.Path.{_≡_, sym, _∙_}
 use mathlib.Core.Logic.{⊎-elim}
-use Rattle.tree.specs.Children.{kidsFrom, ofRole}
+use Rattle.tree.specs.code.Kids.{kidsFrom, ofRole}
 use Rattle.tree.proofs.Kids.{role-yes, role-no, role-end}
 use Rattle.tree.proofs.children.of_role.Statement.{statement}
 use Rattle.tree.proofs.children.of_role.Tie as tie

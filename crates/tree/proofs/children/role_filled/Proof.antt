@@ -3,7 +3,8 @@ use borrow.Author.Tests.{le-leb, lt-leb}
 use Prim.Native.Nat.{ℕ}
 use mathlib.Core.Path.{_≡_, sym, ap, _∙_}
 use lib.ListN.{getD}
-use Rattle.tree.specs.Children.{kidsFrom, slotOf}
+use Rattle.tree.specs.Children.{slotOf}
+use Rattle.tree.specs.code.Kids.{kidsFrom}
 use Rattle.tree.proofs.Filled.{filled-nothing}
 use Rattle.tree.proofs.Slots.{least-list, most-list, least-at, most-at}
 use Rattle.tree.proofs.children.role_filled.Statement.{statement}

@@ -1,7 +1,7 @@
 use borrow.Author.Needs.{needs}
 use native.Mathlib.Omega.{arith}
 use mathlib.Core.Path.{sym}
-use Rattle.tree.specs.Packed.{rows}
+use Rattle.tree.specs.code.Packed.{rows}
 use Rattle.tree.proofs.Slots.{digit-far, digit-past, digit-read, digit-small, power-list, power-some}
 use Rattle.tree.proofs.children.slot_number.Statement.{statement}
 use Rattle.tree.proofs.children.slot_number.Tie as tie

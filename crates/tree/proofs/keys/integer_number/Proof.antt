@@ -7,7 +7,8 @@ use mathlib.Core.Bool.{true, false}
 use Rattle.tree.specs.Bytes.{nodeCount, valueCount}
 use Rattle.tree.specs.Search.{first, lowest}
 use Rattle.tree.specs.Values.{offset}
-use Rattle.tree.specs.Table.{tableOf, at, is-integer}
+use Rattle.tree.specs.Table.{tableOf, at}
+use Rattle.tree.specs.code.Numbers.{is-integer}
 use Rattle.tree.proofs.Search.{first-start, first-here, first-next, first-end}
 use Rattle.tree.proofs.ValueLaws.{offset-next, offset-start}
 use Rattle.tree.proofs.TableLaws.{at-table, below-found, below-none}

@@ -2,11 +2,12 @@ use borrow.Author.Needs.{needs}
 use Prim.Native.Nat.{ℕ, _+_, _-_, _<_}
 use native.Mathlib.Omega.{arith}
 use mathlib.Core.Path.{_≡_, sym, ap, _∙_}
-use Rattle.tree.specs.Bytes.{u64At, valueCount}
+use Rattle.tree.specs.Bytes.{valueCount}
+use Rattle.tree.specs.code.Offsets.{u64At, capped}
 use Rattle.tree.specs.Search.{lowest}
 use Rattle.tree.specs.Keys.{whole}
-use Rattle.tree.specs.Offsets.{capped}
-use Rattle.tree.specs.Table.{tableOf, at, is-integer}
+use Rattle.tree.specs.Table.{tableOf, at}
+use Rattle.tree.specs.code.Numbers.{is-integer}
 use Rattle.tree.proofs.KeyNumbers.{key-past, below-less, key-other, key-length, key-high, key-low}
 use Rattle.tree.proofs.keys.key_at.Statement.{statement}
 use Rattle.tree.proofs.keys.key_at.Tie as tie

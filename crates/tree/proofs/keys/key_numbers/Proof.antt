@@ -6,7 +6,8 @@ use mathlib.Core.Path.{_≡_, refl, _∙_}
 use lib.ListN.{length, getD, length-set, length-replicate}
 use Rattle.tree.specs.Bytes.{nodeCount}
 use Rattle.tree.specs.Values.{offset}
-use Rattle.tree.specs.Table.{tableOf, at, key-number}
+use Rattle.tree.specs.Table.{tableOf, at}
+use Rattle.tree.specs.code.Numbers.{key-number}
 use Rattle.tree.proofs.ValueLaws.{offset-next, offset-start}
 use Rattle.tree.proofs.Tables.{entry-more}
 use Rattle.tree.proofs.keys.key_numbers.Statement.{statement}

@@ -5,7 +5,8 @@ use Prim.Native.Nat.{ℕ, _+_, _*_, _-_, _≤_}
 use native.Mathlib.Omega.{arith}
 use mathlib.Core.Path.{_≡_, sym, ap, _∙_}
 use lib.Dec.{eqb}
-use Rattle.tree.specs.Values.{bytesFrom, magnitude, onward}
+use Rattle.tree.specs.Bytes.{bytesFrom}
+use Rattle.tree.specs.Values.{magnitude, onward}
 use Rattle.tree.proofs.TableLaws.{onward-grows, onward-next, onward-end}
 use Rattle.tree.proofs.keys.magnitude_is.Statement.{statement}
 use Rattle.tree.proofs.keys.magnitude_is.Tie as tie

@@ -2,7 +2,7 @@ use borrow.Author.Needs.{needs}
 use Prim.Native.Nat.{ℕ, _-_, _/_, _%_}
 use native.Mathlib.Omega.{arith}
 use mathlib.Core.Path.{sym, ap, _∙_}
-use Rattle.tree.specs.Offsets.{capped}
+use Rattle.tree.specs.code.Offsets.{capped}
 use Rattle.tree.specs.Table.{at}
 use Rattle.tree.proofs.WholeLaws.{full, whole-small, capped-middle, whole-part, whole-large}
 use Rattle.tree.proofs.keys.whole_of.Statement.{statement}

@@ -3,8 +3,7 @@ use borrow.Author.Tests.{eq-eqb, ne-eqb}
 use Prim.Native.Nat.{_+_, _-_}
 use mathlib.Core.Path.{_≡_, sym, _∙_}
 use lib.ListN.{length}
-use Rattle.tree.specs.Bytes.{u16At}
-use Rattle.tree.specs.Values.{bytesFrom}
+use Rattle.tree.specs.Bytes.{bytesFrom, u16At}
 use Rattle.tree.proofs.TableLaws.{unlike-length}
 use Rattle.tree.proofs.Link.{length-from}
 use Rattle.tree.proofs.lookup.spelled_at.Statement.{statement}

@@ -3,7 +3,7 @@ use Prim.Native.Nat.{_-_, _≤_}
 use native.Mathlib.Omega.{arith}
 use mathlib.Core.Path.{_≡_, sym, _∙_}
 use Rattle.tree.specs.Search.{first, lowest}
-use Rattle.tree.specs.Nodes.{bad6}
+use Rattle.tree.specs.code.Stages.{bad6}
 use Rattle.tree.proofs.Search.{first-start, first-here, first-next, first-end}
 use Rattle.tree.proofs.nodes.first6.Statement.{statement}
 use Rattle.tree.proofs.nodes.first6.Tie as tie

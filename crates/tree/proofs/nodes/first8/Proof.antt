@@ -6,7 +6,7 @@ use mathlib.Core.Path.{_≡_, sym, _∙_}
 use mathlib.Core.Bool.{false}
 use lib.ListN.{length, getD}
 use Rattle.tree.specs.Search.{first, lowest}
-use Rattle.tree.specs.Nodes.{parentOf, depthOf, bad8}
+use Rattle.tree.specs.Nodes.{parentOf, depthOf, too-deep}
 use Rattle.tree.proofs.Search.{first-start, first-here, first-next, first-end}
 use lib.ListN.{length-set, length-replicate}
 use Rattle.tree.proofs.Above.{parent-below, depth-zero, depth-next}
@@ -15,16 +15,16 @@ use Rattle.tree.proofs.nodes.first8.Statement.{statement}
 use Rattle.tree.proofs.nodes.first8.Tie as tie
 
 abbrev Inv-loop : tie.InvT-loop
-Inv-loop t n par depth₀ i₀ depth i = (1 ≤ i) × ((i ≤ n) × ((length depth ≡ 1024) × (((k : ℕ) → k < i → getD depth k 0 ≡ depthOf t k) × (first (n - i) i (bad8 t) ≡ lowest n (bad8 t)))))
+Inv-loop t n par depth₀ i₀ depth i = (1 ≤ i) × ((i ≤ n) × ((length depth ≡ 1024) × (((k : ℕ) → k < i → getD depth k 0 ≡ depthOf t k) × (first (n - i) i (too-deep t) ≡ lowest n (too-deep t)))))
 
 abbrev μ-loop : tie.MeasureT-loop
 μ-loop t n par depth₀ i₀ depth i = n - i
 
 loop-holds : tie.Need-loop-holds Inv-loop μ-loop
-unfolding bad8
+unfolding too-deep
 loop-holds c =
-    let z : bad8 ((c .before .args .t .now)) 0 ≡ false = rw (depth-zero ((c .before .args .t .now))) in
-    (omega arith, (omega arith, (length-replicate {A = ℕ} 1024 1, ((λ k h. let q : k ≡ 0 = omega arith in rw q (sym (depth-zero ((c .before .args .t .now))))), first-next ((c .before .args .n)) 0 (bad8 ((c .before .args .t .now))) (omega arith) z ∙ first-start ((c .before .args .n)) (bad8 ((c .before .args .t .now)))))))
+    let z : too-deep ((c .before .args .t .now)) 0 ≡ false = rw (depth-zero ((c .before .args .t .now))) in
+    (omega arith, (omega arith, (length-replicate {A = ℕ} 1024 1, ((λ k h. let q : k ≡ 0 = omega arith in rw q (sym (depth-zero ((c .before .args .t .now))))), first-next ((c .before .args .n)) 0 (too-deep ((c .before .args .t .now))) (omega arith) z ∙ first-start ((c .before .args .n)) (too-deep ((c .before .args .t .now)))))))
 
 mul-widen : tie.Need-mul-widen Inv-loop μ-loop
 mul-widen c = search needs
@@ -50,13 +50,13 @@ add-d : tie.Need-add-d Inv-loop μ-loop
 add-d c = search needs
 
 returns : tie.Need-returns Inv-loop μ-loop
-unfolding bad8
+unfolding too-deep
 returns c =
     let e : c .before .before .widen .result ≡ parentOf ((c .before .before .before .before .before .before .before .args .t .now)) (c .before .before .before .before .before .loop .i) = c .before .before .widen .ensures .0 ∙ c .before .before .before .before .before .before .before .pre .2 (c .before .before .before .before .before .loop .i) (omega arith) in
     let b = parent-below ((c .before .before .before .before .before .before .before .args .t .now)) (c .before .before .before .before .before .loop .i) (omega arith) in
     let d : c .before .widen2 .result ≡ depthOf ((c .before .before .before .before .before .before .before .args .t .now)) (parentOf ((c .before .before .before .before .before .before .before .args .t .now)) (c .before .before .before .before .before .loop .i)) = rw e at (c .before .widen2 .ensures .0) ∙ c .before .before .before .before .before .loop .inv .1 .1 .1 .0 (parentOf ((c .before .before .before .before .before .before .before .args .t .now)) (c .before .before .before .before .before .loop .i)) (omega arith) in
     let x = depth-next ((c .before .before .before .before .before .before .before .args .t .now)) (c .before .before .before .before .before .loop .i) (omega arith) in
-    sym (first-here ((c .before .before .before .before .before .before .before .args .n)) (c .before .before .before .before .before .loop .i) (bad8 ((c .before .before .before .before .before .before .before .args .t .now))) (omega arith) (lt-ltb 48 (depthOf ((c .before .before .before .before .before .before .before .args .t .now)) (c .before .before .before .before .before .loop .i)) (omega arith))) ∙ c .before .before .before .before .before .loop .inv .1 .1 .1 .1
+    sym (first-here ((c .before .before .before .before .before .before .before .args .n)) (c .before .before .before .before .before .loop .i) (too-deep ((c .before .before .before .before .before .before .before .args .t .now))) (omega arith) (lt-ltb 48 (depthOf ((c .before .before .before .before .before .before .before .args .t .now)) (c .before .before .before .before .before .loop .i)) (omega arith))) ∙ c .before .before .before .before .before .loop .inv .1 .1 .1 .1
 
 narrow-requires : tie.Need-narrow-requires Inv-loop μ-loop
 narrow-requires c κs = search needs
@@ -74,7 +74,7 @@ loop-less : tie.Need-loop-less Inv-loop μ-loop
 loop-less c = search needs
 
 loop-again : tie.Need-loop-again Inv-loop μ-loop
-unfolding bad8
+unfolding too-deep
 loop-again c =
     let e : c .before .before .before .widen .result ≡ parentOf ((c .before .before .before .before .before .before .before .before .args .t .now)) (c .before .before .before .before .before .before .loop .i) = c .before .before .before .widen .ensures .0 ∙ c .before .before .before .before .before .before .before .before .pre .2 (c .before .before .before .before .before .before .loop .i) (omega arith) in
     let b = parent-below ((c .before .before .before .before .before .before .before .before .args .t .now)) (c .before .before .before .before .before .before .loop .i) (omega arith) in
@@ -88,7 +88,7 @@ loop-again c =
           length-set (c .before .before .before .before .before .before .loop .depth) (c .before .before .before .before .before .before .loop .i) (c .narrow .result) ∙ c .before .before .before .before .before .before .loop .inv .1 .1 .0,
           (
             table-more (depthOf ((c .before .before .before .before .before .before .before .before .args .t .now))) (c .before .before .before .before .before .before .loop .depth) (c .before .before .before .before .before .before .loop .i) (c .narrow .result) (omega (arith, c .before .before .before .before .before .before .loop .inv .1 .1 .0)) v (c .before .before .before .before .before .before .loop .inv .1 .1 .1 .0),
-            first-next ((c .before .before .before .before .before .before .before .before .args .n)) (c .before .before .before .before .before .before .loop .i) (bad8 ((c .before .before .before .before .before .before .before .before .args .t .now))) (omega arith) (le-ltb 48 (depthOf ((c .before .before .before .before .before .before .before .before .args .t .now)) (c .before .before .before .before .before .before .loop .i)) (omega arith)) ∙ c .before .before .before .before .before .before .loop .inv .1 .1 .1 .1,
+            first-next ((c .before .before .before .before .before .before .before .before .args .n)) (c .before .before .before .before .before .before .loop .i) (too-deep ((c .before .before .before .before .before .before .before .before .args .t .now))) (omega arith) (le-ltb 48 (depthOf ((c .before .before .before .before .before .before .before .before .args .t .now)) (c .before .before .before .before .before .before .loop .i)) (omega arith)) ∙ c .before .before .before .before .before .before .loop .inv .1 .1 .1 .1,
           ),
         ),
       ),
@@ -96,7 +96,7 @@ loop-again c =
 
 returns-2 : tie.Need-returns-2 Inv-loop μ-loop
 returns-2 c =
-    let q : (c .before .loop .i) ≡ ((c .before .before .before .args .n)) = omega arith in sym q ∙ sym (first-end ((c .before .before .before .args .n)) (c .before .loop .i) (bad8 ((c .before .before .before .args .t .now))) (omega arith)) ∙ c .before .loop .inv .1 .1 .1 .1
+    let q : (c .before .loop .i) ≡ ((c .before .before .before .args .n)) = omega arith in sym q ∙ sym (first-end ((c .before .before .before .args .n)) (c .before .loop .i) (too-deep ((c .before .before .before .args .t .now))) (omega arith)) ∙ c .before .loop .inv .1 .1 .1 .1
 
 pub first8-spec : {M : Type 1} → statement M
 first8-spec =

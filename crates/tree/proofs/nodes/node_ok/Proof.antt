@@ -2,7 +2,7 @@ use borrow.Author.Needs.{needs}
 use borrow.Author.Tests.{le-leb, lt-leb, eq-eqb, ne-eqb, not-true, not-false}
 use Prim.Native.Nat.{_-_}
 use mathlib.Core.Path.{sym, _∙_}
-use Rattle.tree.specs.Nodes.{good6}
+use Rattle.tree.specs.code.Stages.{good6}
 use Rattle.tree.proofs.nodes.node_ok.Statement.{statement}
 use Rattle.tree.proofs.nodes.node_ok.Tie as tie
 

@@ -3,7 +3,8 @@ use Prim.Native.Nat.{ℕ, _-_, _≤_}
 use native.Mathlib.Omega.{arith}
 use mathlib.Core.Path.{_≡_, _∙_}
 use lib.ListN.{length}
-use Rattle.tree.specs.Nodes.{parentOf, Parents}
+use Rattle.tree.specs.Nodes.{parentOf}
+use Rattle.tree.specs.code.Stages.{Parents}
 use lib.ListN.{length-set, length-replicate}
 use Rattle.tree.proofs.Tables.{table-more}
 use Rattle.tree.proofs.nodes.parents.Statement.{statement}

@@ -3,7 +3,7 @@ use borrow.Author.Tests.{eq-eqb, ne-eqb}
 use Prim.Native.Nat.{_-_}
 use native.Mathlib.Omega.{arith}
 use mathlib.Core.Path.{sym, _∙_}
-use Rattle.tree.specs.Nodes.{valueFits}
+use Rattle.tree.specs.code.Stages.{valueFits}
 use Rattle.tree.proofs.Names.{name-test, literal-low, literal-high}
 use Rattle.tree.proofs.nodes.value_fits.Statement.{statement}
 use Rattle.tree.proofs.nodes.value_fits.Tie as tie

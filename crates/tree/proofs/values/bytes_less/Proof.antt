@@ -2,7 +2,7 @@ use borrow.Author.Needs.{needs}
 use Prim.Native.Nat.{_+_, _-_, _≤_}
 use native.Mathlib.Omega.{arith}
 use mathlib.Core.Path.{_≡_, sym, _∙_}
-use Rattle.tree.specs.Offsets.{bytesLess}
+use Rattle.tree.specs.code.Offsets.{bytesLess}
 use Rattle.tree.proofs.ValueLaws.{less-lt, less-gt, less-eq, less-end}
 use Rattle.tree.proofs.values.bytes_less.Statement.{statement}
 use Rattle.tree.proofs.values.bytes_less.Tie as tie

@@ -6,7 +6,7 @@ use mathlib.Core.Path.{_≡_, refl, sym, _∙_}
 use mathlib.Core.Bool.{true, false}
 use Rattle.tree.specs.Search.{first}
 use Rattle.tree.specs.Values.{offset}
-use Rattle.tree.specs.Judge.{namesOf, notName}
+use Rattle.tree.specs.code.Stages.{namesOf, notName}
 use Rattle.tree.proofs.Search.{first-start, first-here, first-next, first-end}
 use Rattle.tree.proofs.ValueLaws.{offset-next, offset-start}
 use Rattle.tree.proofs.values.count_names.Statement.{statement}

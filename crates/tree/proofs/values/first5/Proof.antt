@@ -6,8 +6,9 @@ use mathlib.Core.Path.{_≡_, refl, sym, _∙_}
 use mathlib.Core.Logic.{⊎-elim}
 use mathlib.Core.Bool.{true, false}
 use Rattle.tree.specs.Search.{first, lowest}
-use Rattle.tree.specs.Values.{offset, bad5}
-use Rattle.tree.specs.Offsets.{formedAt, orderedAt}
+use Rattle.tree.specs.Values.{offset}
+use Rattle.tree.specs.code.Stages.{bad5}
+use Rattle.tree.specs.code.Offsets.{formedAt, orderedAt}
 use Rattle.tree.proofs.Search.{first-start, first-here, first-next, first-end}
 use Rattle.tree.proofs.ValueLaws.{offset-next, offset-start}
 use Rattle.tree.proofs.Names.{five-form, five-order, five-ok, five-first}

@@ -5,8 +5,7 @@ use mathlib.Core.Path.{_≡_, sym, _∙_}
 use mathlib.Core.Logic.{⊎-elim}
 use mathlib.Core.Bool.{false}
 use Rattle.tree.specs.Search.{first, lowest}
-use Rattle.tree.specs.Values.{bad9, globalAt}
-use Rattle.tree.specs.Judge.{namesOf}
+use Rattle.tree.specs.code.Stages.{bad9, globalAt, namesOf}
 use Rattle.tree.proofs.Search.{first-start, first-here, first-next, first-end}
 use Rattle.tree.proofs.Names.{nine-none, nine-low, nine-ok, nine-first}
 use Rattle.tree.proofs.values.first9.Statement.{statement}

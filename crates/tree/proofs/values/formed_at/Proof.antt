@@ -2,7 +2,7 @@ use borrow.Author.Needs.{needs}
 use borrow.Author.Tests.{le-leb, lt-leb, eq-eqb, ne-eqb}
 use Prim.Native.Nat.{_-_}
 use mathlib.Core.Path.{sym, _∙_}
-use Rattle.tree.specs.Offsets.{formedAt}
+use Rattle.tree.specs.code.Offsets.{formedAt}
 use Rattle.tree.proofs.values.formed_at.Statement.{statement}
 use Rattle.tree.proofs.values.formed_at.Tie as tie
 

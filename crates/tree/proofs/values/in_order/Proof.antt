@@ -2,7 +2,7 @@ use borrow.Author.Needs.{needs}
 use borrow.Author.Tests.{lt-ltb, le-ltb}
 use Prim.Native.Nat.{_-_}
 use mathlib.Core.Path.{_∙_}
-use Rattle.tree.specs.Offsets.{orderedAt}
+use Rattle.tree.specs.code.Offsets.{orderedAt}
 use Rattle.tree.proofs.values.in_order.Statement.{statement}
 use Rattle.tree.proofs.values.in_order.Tie as tie
 

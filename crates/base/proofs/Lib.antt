@@ -1,0 +1,2 @@
+-- Laws that proofs above cite.
+pub mod Bools

@@ -1,0 +1,3 @@
+-- What every crate above may cite.
+pub mod Ascii
+pub mod Count

@@ -1,0 +1,74 @@
+-- For the code: the pieces that its functions write, and what they require. Assumes nothing.
+use Prim.Native.Nat.{ℕ, _+_, _-_, _≤_, _<_}
+use mathlib.Core.Path.{_≡_}
+use mathlib.Core.Bool.{true, false}
+use mathlib.Core.List.{List, _∷_, _++_}
+use lib.Dec.{eqb, ltb}
+use lib.ListN.{length, getD}
+use Rattle.tree.specs.Bytes.{nodeCount, valueCount, u16At}
+use Rattle.tree.specs.Values.{offset}
+use Rattle.tree.specs.Table.{tableOf, at}
+use Rattle.rules.specs.Visit.{look}
+use Rattle.rules.specs.Record.{Rec, Span, span-of}
+use Rattle.json.specs.Digits.{decimal}
+use Rattle.json.specs.Text.{nil, string, number, array, object, done, _⨾_, _⇒_, comma, text, member, items}
+use Rattle.log.specs.Words.{seconds, phrase, said}
+use Rattle.log.specs.Log.{only, one, level, place, message, other, related, index-of, rule}
+
+abbrev pub span : ℕ → ℕ → Span
+span b e = record { begin = b; end = e }
+
+-- a location but for its closing brace
+abbrev pub open-place : Span → List ℕ → List ℕ
+open-place s rest = 0x7B ∷ member (place s) rest
+
+-- a related location
+abbrev pub related-place : List ℕ → Span → List ℕ → List ℕ
+related-place says s rest = text (object (place s ⨾ message says ⨾ done)) rest
+
+-- the related location of a code's second span, where there are words for it
+abbrev pub second-related : ℕ → Span → List ℕ → List ℕ
+second-related code s rest = items true (other (look code seconds "") s nil) rest
+
+-- the related locations of a record
+abbrev pub all-related : Rec → List ℕ → List ℕ
+all-related r rest = items true (related r) rest
+
+-- the message of a code and a value number, of the file t
+abbrev pub told : List ℕ → ℕ → ℕ → List ℕ
+told t code v = phrase code ++ said (at (tableOf t) v)
+
+-- the rule of a code on its line, if the code is present
+abbrev pub rule-line : List ℕ → ℕ → List ℕ → List ℕ
+rule-line tally code rest =
+    elim (ltb 0 (getD tally (code - 1) 0)) [
+      | true ↦ comma (eqb (index-of tally code) 0) (0x0A ∷ text (rule code) rest)
+      | false ↦ rest
+    ]
+
+-- a result's parts
+abbrev pub result-rule : List ℕ → ℕ → List ℕ → List ℕ
+result-rule tally code rest =
+    0x7B ∷ member ("ruleId" ⇒ string (decimal code)) (0x2C ∷ member ("ruleIndex" ⇒ number (index-of tally code)) rest)
+
+abbrev pub result-place : Rec → List ℕ → List ℕ
+result-place r rest =
+    0x2C ∷ member ("locations" ⇒ one (only (place (span-of (r .spot))))) (0x2C ∷ member ("level" ⇒ string (level (r .code))) rest)
+
+abbrev pub result-related : Rec → List ℕ → List ℕ
+result-related r rest = 0x2C ∷ member ("relatedLocations" ⇒ array (related r)) (0x7D ∷ rest)
+
+-- the value that starts at o is within the file, and short
+pub record Here (t : List ℕ) (o : ℕ) : Type 0 where
+  pub inside : o + 3 + u16At t (o + 1) ≤ length t
+  pub short : u16At t (o + 1) ≤ 255
+
+-- the values of the file t are few, and each is so
+pub record Small (t : List ℕ) : Type 0 where
+  pub few : valueCount t ≤ 512
+  pub here : (v : ℕ) → v < valueCount t → Here t (offset t (nodeCount t) v)
+
+-- a table of where each value of the file t starts
+pub record Starts (t table : List ℕ) : Type 0 where
+  pub long : length table ≡ 512
+  pub at-each : (v : ℕ) → v < 512 → getD table v 0 ≡ offset t (nodeCount t) v

@@ -1,0 +1,47 @@
+-- The words of a log's messages: "names and keys as text, numbers in hex of their value bytes". Assumes nothing.
+use Prim.Native.Nat.{ℕ}
+use Prim.Native.String.{String}
+use mathlib.Core.Bool.{cond}
+use mathlib.Core.List.{List, [], _∷_, _++_}
+use lib.Dec.{leb}
+use Rattle.tree.specs.Values.{Value}
+use Rattle.rules.specs.Visit.{look}
+use Rattle.base.specs.Ascii.{ascii}
+use Rattle.json.specs.Escape.{hexes}
+
+-- what is said of each code, before its value; after the Rust's messages
+abbrev pub phrases : List (ℕ × String)
+phrases =
+    (1, "Unused load of") ∷ (2, "Unused assignment of") ∷ (3, "Unused argument") ∷ (4, "Use of unassigned variable")
+    ∷ (5, "Use of undefined variable") ∷ (6, "Use of potentially undefined variable")
+    ∷ (7, "This return lacks an expression, which is wanted by function") ∷ (8, "No return at the end of function")
+    ∷ (9, "Unreachable statement") ∷ (10, "Redundant return at the end of a function")
+    ∷ (11, "Redundant continue at the end of a loop") ∷ (12, "A load statement not at the top of the file")
+    ∷ (13, "Statement has no effect")
+    ∷ (14, "Incompatible check of a type against") ∷ (15, "Duplicate top-level assignment of")
+    ∷ (16, "Duplicate dictionary key") ∷ (17, "Statement that does nothing or fails: variable")
+    ∷ []
+
+-- 01's kinds of values, with the spaces around them; an integer's bytes are its digits of base 256, a float's stand as in the file
+abbrev pub kinds : List (ℕ × String)
+kinds = (0, " ") ∷ (1, " string ") ∷ (2, " bytes ") ∷ (3, " integer 0x") ∷ (4, " float of bytes ") ∷ []
+
+-- the second and third spans as related locations: 01 gives codes 7, 8, 15 and 16 a second span, 7 a third
+abbrev pub seconds : List (ℕ × String)
+seconds = (7, "the function") ∷ (8, "why the function wants a value") ∷ (15, "first defined here") ∷ (16, "the equal key after it") ∷ []
+
+abbrev pub thirds : List (ℕ × String)
+thirds = (7, "why the function wants a value") ∷ []
+
+unfoldable pub phrase : ℕ → List ℕ
+phrase c = ascii (look c phrases "")
+
+unfoldable pub kind-word : ℕ → List ℕ
+kind-word k = ascii (look k kinds "")
+
+-- "names and keys as text, numbers in hex of their value bytes"
+unfoldable pub shown : Value → List ℕ
+shown v = cond (leb (v .kind) 2) (v .bytes) (hexes (v .bytes))
+
+unfoldable pub said : Value → List ℕ
+said v = kind-word (v .kind) ++ shown v

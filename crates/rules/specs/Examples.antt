@@ -1,0 +1,391 @@
+-- More files with their lists, beside the starred ones (Known): every code that those don't show, the five loops that are taken twice,
+-- 01's 47 bytes, and each limit at its number and one past it. Assumes nothing.
+use Prim.Native.Nat.{ℕ, zero, suc}
+use mathlib.Core.Bool.{Bool, true, _&&_}
+use mathlib.Core.List.{List, [], _∷_, _++_, map}
+use lib.Dec.{eqb}
+use lib.ListN.{length, replicate}
+use Rattle.tree.specs.Judge.{judged, numberOf, placeOf}
+use Rattle.tree.specs.declared.Judged.{Judged}
+use Rattle.tree.specs.declared.Judged.the-variants.{Valid, Refused}
+use Rattle.tree.specs.Bytes.{version}
+use Rattle.tree.specs.Written.{u16, node-of, value-of, joined, headed, file}
+use Rattle.rules.specs.Known.{Row, always}
+
+-- a header, with nothing after it
+abbrev pub header : ℕ → ℕ → ℕ → ℕ → List ℕ
+header v n nv g = headed v n nv g []
+
+-- a file with globals given: their value numbers
+abbrev pub file-given : List ℕ → List (List ℕ) → List (List ℕ) → List ℕ
+file-given gs ns vs = headed version (length ns) (length vs) (length gs) (joined ns ++ (joined vs ++ joined (map u16 gs)))
+
+-- ---- the files
+
+-- the nodes and the value of 01's example of the listing program
+abbrev pub one-literal : List (List ℕ)
+one-literal = node-of 5 0 2 0 1 65535 ∷ node-of 21 4 1 0 1 0 ∷ []
+
+abbrev pub value-one : List (List ℕ)
+value-one = value-of 3 (0x01 ∷ []) ∷ []
+
+-- of examples/scripts, under their names there
+
+-- load("rates.star", "sidereal")
+-- (values: sidereal)
+abbrev pub unused-load : List ℕ
+unused-load =
+    file
+    (node-of 13 0 2 0 30 65535
+    ∷ node-of 47 0 1 19 29 0
+    ∷ [])
+    (value-of 0 (0x73 ∷ 0x69 ∷ 0x64 ∷ 0x65 ∷ 0x72 ∷ 0x65 ∷ 0x61 ∷ 0x6c ∷ [])
+    ∷ [])
+
+-- def f(x):
+--     pass
+-- (values: f, x)
+abbrev pub unused-argument : List ℕ
+unused-argument =
+    file
+    (node-of 12 0 4 0 18 65535
+    ∷ node-of 40 6 1 4 5 0
+    ∷ node-of 43 0 1 6 7 1
+    ∷ node-of 3 1 1 14 18 65535
+    ∷ [])
+    (value-of 0 (0x66 ∷ [])
+    ∷ value-of 0 (0x78 ∷ [])
+    ∷ [])
+
+-- print(x)
+-- x = 1
+-- (values: x, print, 1)
+abbrev pub using-unassigned : List ℕ
+using-unassigned =
+    file
+    (node-of 8 0 8 0 14 65535
+    ∷ node-of 5 0 4 0 8 65535
+    ∷ node-of 23 4 3 0 8 65535
+    ∷ node-of 20 7 1 0 5 1
+    ∷ node-of 20 0 1 6 7 0
+    ∷ node-of 6 0 3 9 14 65535
+    ∷ node-of 40 5 1 9 10 0
+    ∷ node-of 21 4 1 13 14 2
+    ∷ [])
+    (value-of 0 (0x78 ∷ [])
+    ∷ value-of 0 (0x70 ∷ 0x72 ∷ 0x69 ∷ 0x6e ∷ 0x74 ∷ [])
+    ∷ value-of 3 (0x01 ∷ [])
+    ∷ [])
+
+-- # globals: print
+-- print(x)
+-- (values: x, print)
+abbrev pub using-undefined : List ℕ
+using-undefined =
+    file-given (1 ∷ [])
+    (node-of 5 0 4 17 25 65535
+    ∷ node-of 23 4 3 17 25 65535
+    ∷ node-of 20 7 1 17 22 1
+    ∷ node-of 20 0 1 23 24 0
+    ∷ [])
+    (value-of 0 (0x78 ∷ [])
+    ∷ value-of 0 (0x70 ∷ 0x72 ∷ 0x69 ∷ 0x6e ∷ 0x74 ∷ [])
+    ∷ [])
+
+-- def f(c):
+--     if c:
+--         return
+--     return 1
+-- (values: c, f, 1)
+abbrev pub missing-return-expression : List ℕ
+missing-return-expression =
+    file
+    (node-of 12 0 9 0 47 65535
+    ∷ node-of 40 6 1 4 5 1
+    ∷ node-of 43 0 1 6 7 0
+    ∷ node-of 8 1 6 14 47 65535
+    ∷ node-of 9 0 3 14 34 65535
+    ∷ node-of 20 4 1 17 18 0
+    ∷ node-of 4 1 1 28 34 65535
+    ∷ node-of 4 0 2 39 47 65535
+    ∷ node-of 21 4 1 46 47 2
+    ∷ [])
+    (value-of 0 (0x63 ∷ [])
+    ∷ value-of 0 (0x66 ∷ [])
+    ∷ value-of 3 (0x01 ∷ [])
+    ∷ [])
+
+-- def f():
+--     return
+-- f()
+-- (values: f)
+abbrev pub redundant-return : List ℕ
+redundant-return =
+    file
+    (node-of 8 0 7 0 23 65535
+    ∷ node-of 12 0 3 0 19 65535
+    ∷ node-of 40 6 1 4 5 0
+    ∷ node-of 4 1 1 13 19 65535
+    ∷ node-of 5 0 3 20 23 65535
+    ∷ node-of 23 4 2 20 23 65535
+    ∷ node-of 20 7 1 20 21 0
+    ∷ [])
+    (value-of 0 (0x66 ∷ [])
+    ∷ [])
+
+-- for i in xs:
+--     continue
+-- print()
+-- (values: i, xs, print)
+abbrev pub redundant-continue : List ℕ
+redundant-continue =
+    file
+    (node-of 8 0 8 0 33 65535
+    ∷ node-of 11 0 4 0 25 65535
+    ∷ node-of 40 5 1 4 5 0
+    ∷ node-of 20 4 1 9 11 1
+    ∷ node-of 2 1 1 17 25 65535
+    ∷ node-of 5 0 3 26 33 65535
+    ∷ node-of 23 4 2 26 33 65535
+    ∷ node-of 20 7 1 26 31 2
+    ∷ [])
+    (value-of 0 (0x69 ∷ [])
+    ∷ value-of 0 (0x78 ∷ 0x73 ∷ [])
+    ∷ value-of 0 (0x70 ∷ 0x72 ∷ 0x69 ∷ 0x6e ∷ 0x74 ∷ [])
+    ∷ [])
+
+-- print()
+-- load("rates.star", "sidereal")
+-- sidereal()
+-- (values: print, sidereal)
+abbrev pub misplaced-load : List ℕ
+misplaced-load =
+    file
+    (node-of 8 0 9 0 49 65535
+    ∷ node-of 5 0 3 0 7 65535
+    ∷ node-of 23 4 2 0 7 65535
+    ∷ node-of 20 7 1 0 5 0
+    ∷ node-of 13 0 2 8 38 65535
+    ∷ node-of 47 0 1 27 37 1
+    ∷ node-of 5 0 3 39 49 65535
+    ∷ node-of 23 4 2 39 49 65535
+    ∷ node-of 20 7 1 39 47 1
+    ∷ [])
+    (value-of 0 (0x70 ∷ 0x72 ∷ 0x69 ∷ 0x6e ∷ 0x74 ∷ [])
+    ∷ value-of 0 (0x73 ∷ 0x69 ∷ 0x64 ∷ 0x65 ∷ 0x72 ∷ 0x65 ∷ 0x61 ∷ 0x6c ∷ [])
+    ∷ [])
+
+-- print(type(x) == str)
+-- (values: x, str, type, print)
+abbrev pub incompatible-type-check : List ℕ
+incompatible-type-check =
+    file
+    (node-of 5 0 8 0 21 65535
+    ∷ node-of 23 4 7 0 21 65535
+    ∷ node-of 20 7 1 0 5 3
+    ∷ node-of 31 0 5 6 20 65535
+    ∷ node-of 23 1 3 6 13 65535
+    ∷ node-of 20 7 1 6 10 2
+    ∷ node-of 20 0 1 11 12 0
+    ∷ node-of 20 2 1 17 20 1
+    ∷ [])
+    (value-of 0 (0x78 ∷ [])
+    ∷ value-of 0 (0x73 ∷ 0x74 ∷ 0x72 ∷ [])
+    ∷ value-of 0 (0x74 ∷ 0x79 ∷ 0x70 ∷ 0x65 ∷ [])
+    ∷ value-of 0 (0x70 ∷ 0x72 ∷ 0x69 ∷ 0x6e ∷ 0x74 ∷ [])
+    ∷ [])
+
+-- x
+-- (values: x)
+abbrev pub ident-as-statement : List ℕ
+ident-as-statement =
+    file
+    (node-of 5 0 2 0 1 65535
+    ∷ node-of 20 4 1 0 1 0
+    ∷ [])
+    (value-of 0 (0x78 ∷ [])
+    ∷ [])
+
+-- for i in xs:
+--   for j in xs:
+--     for k in xs:
+--       for l in xs:
+--         def f():
+--           for _ in xs:
+--             print(a)
+--             a = 1
+-- (values: _, a, f, i, j, k, l, xs, print, 1)
+abbrev pub five-loops : List ℕ
+five-loops =
+    file
+    (node-of 11 0 25 0 142 65535
+    ∷ node-of 40 5 1 4 5 3
+    ∷ node-of 20 4 1 9 11 7
+    ∷ node-of 11 1 22 15 142 65535
+    ∷ node-of 40 5 1 19 20 4
+    ∷ node-of 20 4 1 24 26 7
+    ∷ node-of 11 1 19 32 142 65535
+    ∷ node-of 40 5 1 36 37 5
+    ∷ node-of 20 4 1 41 43 7
+    ∷ node-of 11 1 16 51 142 65535
+    ∷ node-of 40 5 1 55 56 6
+    ∷ node-of 20 4 1 60 62 7
+    ∷ node-of 12 1 13 72 142 65535
+    ∷ node-of 40 6 1 76 77 2
+    ∷ node-of 11 1 11 91 142 65535
+    ∷ node-of 40 5 1 95 96 0
+    ∷ node-of 20 4 1 100 102 7
+    ∷ node-of 8 1 8 116 142 65535
+    ∷ node-of 5 0 4 116 124 65535
+    ∷ node-of 23 4 3 116 124 65535
+    ∷ node-of 20 7 1 116 121 8
+    ∷ node-of 20 0 1 122 123 1
+    ∷ node-of 6 0 3 137 142 65535
+    ∷ node-of 40 5 1 137 138 1
+    ∷ node-of 21 4 1 141 142 9
+    ∷ [])
+    (value-of 0 (0x5f ∷ [])
+    ∷ value-of 0 (0x61 ∷ [])
+    ∷ value-of 0 (0x66 ∷ [])
+    ∷ value-of 0 (0x69 ∷ [])
+    ∷ value-of 0 (0x6a ∷ [])
+    ∷ value-of 0 (0x6b ∷ [])
+    ∷ value-of 0 (0x6c ∷ [])
+    ∷ value-of 0 (0x78 ∷ 0x73 ∷ [])
+    ∷ value-of 0 (0x70 ∷ 0x72 ∷ 0x69 ∷ 0x6e ∷ 0x74 ∷ [])
+    ∷ value-of 3 (0x01 ∷ [])
+    ∷ [])
+
+-- for i in xs:
+--   for j in xs:
+--     for k in xs:
+--       for l in xs:
+--         for m in xs:
+--           def f():
+--             for _ in xs:
+--               print(a)
+--               a = 1
+-- (values: _, a, f, i, j, k, l, m, xs, print, 1)
+abbrev pub six-loops : List ℕ
+six-loops =
+    file
+    (node-of 11 0 28 0 171 65535
+    ∷ node-of 40 5 1 4 5 3
+    ∷ node-of 20 4 1 9 11 8
+    ∷ node-of 11 1 25 15 171 65535
+    ∷ node-of 40 5 1 19 20 4
+    ∷ node-of 20 4 1 24 26 8
+    ∷ node-of 11 1 22 32 171 65535
+    ∷ node-of 40 5 1 36 37 5
+    ∷ node-of 20 4 1 41 43 8
+    ∷ node-of 11 1 19 51 171 65535
+    ∷ node-of 40 5 1 55 56 6
+    ∷ node-of 20 4 1 60 62 8
+    ∷ node-of 11 1 16 72 171 65535
+    ∷ node-of 40 5 1 76 77 7
+    ∷ node-of 20 4 1 81 83 8
+    ∷ node-of 12 1 13 95 171 65535
+    ∷ node-of 40 6 1 99 100 2
+    ∷ node-of 11 1 11 116 171 65535
+    ∷ node-of 40 5 1 120 121 0
+    ∷ node-of 20 4 1 125 127 8
+    ∷ node-of 8 1 8 143 171 65535
+    ∷ node-of 5 0 4 143 151 65535
+    ∷ node-of 23 4 3 143 151 65535
+    ∷ node-of 20 7 1 143 148 9
+    ∷ node-of 20 0 1 149 150 1
+    ∷ node-of 6 0 3 166 171 65535
+    ∷ node-of 40 5 1 166 167 1
+    ∷ node-of 21 4 1 170 171 10
+    ∷ [])
+    (value-of 0 (0x5f ∷ [])
+    ∷ value-of 0 (0x61 ∷ [])
+    ∷ value-of 0 (0x66 ∷ [])
+    ∷ value-of 0 (0x69 ∷ [])
+    ∷ value-of 0 (0x6a ∷ [])
+    ∷ value-of 0 (0x6b ∷ [])
+    ∷ value-of 0 (0x6c ∷ [])
+    ∷ value-of 0 (0x6d ∷ [])
+    ∷ value-of 0 (0x78 ∷ 0x73 ∷ [])
+    ∷ value-of 0 (0x70 ∷ 0x72 ∷ 0x69 ∷ 0x6e ∷ 0x74 ∷ [])
+    ∷ value-of 3 (0x01 ∷ [])
+    ∷ [])
+
+-- ---- the lists
+
+-- "13 0 1 65535 0 0 0 0"; codes 1, 3, 4, 5, 7, 10, 11, 12, 14 and 17, one each;
+-- "twice while the count of enclosing for statements (itself counted, through defs too) is at most 5, once from 6": the for in the def is the
+-- fifth, and its second round finds a set in the first (6); it is the sixth, and its one round finds no a (4)
+abbrev pub examples : List Row
+examples =
+    always (file one-literal value-one) (13 ∷ 0 ∷ 1 ∷ 65535 ∷ 0 ∷ 0 ∷ 0 ∷ 0 ∷ [])
+    ∷ always (file-given [] one-literal value-one) (13 ∷ 0 ∷ 1 ∷ 65535 ∷ 0 ∷ 0 ∷ 0 ∷ 0 ∷ [])
+    ∷ always unused-load (1 ∷ 19 ∷ 29 ∷ 0 ∷ 0 ∷ 0 ∷ 0 ∷ 0 ∷ [])
+    ∷ always unused-argument (3 ∷ 6 ∷ 7 ∷ 1 ∷ 0 ∷ 0 ∷ 0 ∷ 0 ∷ [])
+    ∷ always using-unassigned (4 ∷ 6 ∷ 7 ∷ 0 ∷ 0 ∷ 0 ∷ 0 ∷ 0 ∷ [])
+    ∷ always using-undefined (5 ∷ 23 ∷ 24 ∷ 0 ∷ 0 ∷ 0 ∷ 0 ∷ 0 ∷ [])
+    ∷ always missing-return-expression (7 ∷ 28 ∷ 34 ∷ 1 ∷ 0 ∷ 47 ∷ 39 ∷ 47 ∷ [])
+    ∷ always redundant-return (10 ∷ 13 ∷ 19 ∷ 65535 ∷ 0 ∷ 0 ∷ 0 ∷ 0 ∷ [])
+    ∷ always redundant-continue (11 ∷ 17 ∷ 25 ∷ 65535 ∷ 0 ∷ 0 ∷ 0 ∷ 0 ∷ [])
+    ∷ always misplaced-load (12 ∷ 8 ∷ 38 ∷ 65535 ∷ 0 ∷ 0 ∷ 0 ∷ 0 ∷ [])
+    ∷ always incompatible-type-check (14 ∷ 6 ∷ 20 ∷ 1 ∷ 0 ∷ 0 ∷ 0 ∷ 0 ∷ [])
+    ∷ always ident-as-statement (17 ∷ 0 ∷ 1 ∷ 0 ∷ 0 ∷ 0 ∷ 0 ∷ 0 ∷ [])
+    ∷ always five-loops (6 ∷ 122 ∷ 123 ∷ 1 ∷ 0 ∷ 0 ∷ 0 ∷ 0 ∷ [])
+    ∷ always six-loops (4 ∷ 149 ∷ 150 ∷ 1 ∷ 0 ∷ 0 ∷ 0 ∷ 0 ∷ [])
+    ∷ []
+
+-- ---- the limits
+
+-- bytes with 01's number and place of their refusal, 0 and 0 where the file is valid
+pub record Border : Type 0 where
+  pub bytes : List ℕ
+  pub number : ℕ
+  pub place : ℕ
+
+abbrev pub refuses : ℕ → ℕ → List ℕ → Border
+refuses n p t = record { bytes = t; number = n; place = p }
+
+abbrev pub accepts : List ℕ → Border
+accepts t = refuses 0 0 t
+
+-- statements in statements, n of them
+abbrev pub nested : ℕ → List (List ℕ)
+nested zero = []
+nested (suc n) = node-of 8 0 (suc n) 0 0 65535 ∷ nested n
+
+-- a file of one pass and one value
+abbrev pub of-value : List ℕ → List ℕ
+of-value v = file (node-of 3 0 1 0 0 65535 ∷ []) (v ∷ [])
+
+-- Under 11 bytes: 1. "version not 1": 2. "nodes 0 or over 1,024; values over 512; globals over 512 and not 65535": 3; at their numbers
+-- these headers, with nothing after them, are refused for their sections only. A value of 255 bytes and of 256, an integer of 64
+-- and of 65, a depth of 48 and of 49.
+abbrev pub borders : List Border
+borders =
+    refuses 1 0 (83 ∷ 76 ∷ 84 ∷ 1 ∷ 0 ∷ 1 ∷ 0 ∷ 0 ∷ 0 ∷ 0 ∷ [])
+    ∷ refuses 2 0 (header 0 1 0 0)
+    ∷ refuses 2 0 (header 2 1 0 0)
+    ∷ refuses 3 0 (header 1 0 0 0)
+    ∷ refuses 4 0 (header 1 1024 0 0)
+    ∷ refuses 3 0 (header 1 1025 0 0)
+    ∷ refuses 4 0 (header 1 1 512 0)
+    ∷ refuses 3 0 (header 1 1 513 0)
+    ∷ refuses 4 0 (header 1 1 0 512)
+    ∷ refuses 3 0 (header 1 1 0 513)
+    ∷ refuses 3 0 (header 1 1 0 65534)
+    ∷ refuses 4 0 (header 1 1 0 65535)
+    ∷ accepts (of-value (value-of 1 (replicate 255 115)))
+    ∷ refuses 5 0 (of-value (value-of 1 (replicate 256 115)))
+    ∷ accepts (of-value (value-of 3 (replicate 64 255)))
+    ∷ refuses 5 0 (of-value (value-of 3 (replicate 65 255)))
+    ∷ accepts (file (nested 48) [])
+    ∷ refuses 8 48 (file (nested 49) [])
+    ∷ []
+
+abbrev pub says : Judged → ℕ → ℕ → Bool
+says (Valid f) n p = eqb n 0 && eqb p 0
+says (Refused why) n p = eqb n (numberOf why) && eqb p (placeOf why)
+
+abbrev pub keep-to : List Border → Bool
+keep-to [] = true
+keep-to (l ∷ ls) = says (judged (l .bytes)) (l .number) (l .place) && keep-to ls
