@@ -1,7 +1,7 @@
-"""A list as a SARIF log, after document 02, §1, and the tree that crates sarif_log and sarif_strict run on.
+"""A list as a SARIF log, after document 02, §1, and a tree whose log has all that a log can have.
 
-This shares nothing with the Rattle but the names and severities of tools/codes.txt. examples/check and compare/sarif hold the
-programs' logs against it, byte for byte.
+This shares nothing with the Rattle but the names and severities of tools/codes.txt. examples/check, compare/sarif and the
+gate (tools/desk-cases.py) hold the logs of the program desk against it, byte for byte.
 """
 import codecs
 import pathlib
@@ -30,6 +30,7 @@ PHRASES = {
     16: "Duplicate dictionary key",
     17: "Statement that does nothing or fails: variable",
 }
+# What a message says of a value before it, by the value's kind.
 KINDS = (" ", " string ", " bytes ", " integer 0x", " float of bytes ")
 # Words for the second span, then for the third.
 OTHERS = {
@@ -38,17 +39,19 @@ OTHERS = {
     15: ("first defined here",),
     16: ("the equal key after it",),
 }
+# "warning, or none for disabled"; a level none belongs beside a kind other than fail.
 LEVELS = {"warning": "warning", "disabled": "none"}
+SORTS = {"warning": "fail", "none": "informational"}
 
-# Levels warning and none; second spans and a third; a string, bytes, integers (0 has no bytes) and floats as keys; one
-# pair of keys that only strict keys hold for equal.
+# Levels warning and none; second spans and a third; a string that would be a placeholder and a link outside an argument,
+# bytes, integers (0 has no bytes) and floats as keys; one pair of keys that only strict keys hold for equal.
 SCRIPT = r"""# globals: print
 load("names.star", "sidereal")
 def odd(comet):
     if comet:
         return
     return 1
-odd = {"\"\u20ac\n": 1, "\"\u20ac\n": 2, b"\xff": 3, b"\xff": 4, 0: 5, 0: 6, 1: 7, 1.0: 8, 10000000000: 9, 1e10: 10}
+odd = {"\"\u20ac\n{0} [a](b)": 1, "\"\u20ac\n{0} [a](b)": 2, b"\xff": 3, b"\xff": 4, 0: 5, 0: 6, 1: 7, 1.0: 8, 10000000000: 9, 1e10: 10}
 print(stray)
 2
 """.encode()
@@ -62,7 +65,7 @@ NAMES = {
 def sample():
     """The tree of SCRIPT under those names."""
     root = export.Script(SCRIPT).module()
-    for node in root.walk():
+    for node, _ in root.walk():
         if node.value and node.value[0] == 0:
             node.value = 0, NAMES.get(node.value[1], node.value[1])
     return export.packed(root, [b"print"])
@@ -123,16 +126,23 @@ def rule(code, entry):
     return {"id": str(code), "name": entry[0], "defaultConfiguration": {"level": LEVELS[entry[1]]}}
 
 
+def message(code, value):
+    """The phrase of a code; of a value its kind stands in the text, and what it is is an argument."""
+    if value is None:
+        return {"text": PHRASES[code], "arguments": []}
+    return {"text": PHRASES[code] + KINDS[value[0]] + "{0}", "arguments": [shown(value)]}
+
+
 def result(numbers, level, index, values):
     code, begin, end, value = numbers[:4]
-    said = "" if value == export.NONE else KINDS[values[value][0]] + shown(values[value])
     spans = (numbers[4:6], numbers[6:8])
     return {
         "ruleId": str(code),
         "ruleIndex": index,
         "locations": [location(begin, end)],
+        "kind": SORTS[level],
         "level": level,
-        "message": {"text": PHRASES[code] + said},
+        "message": message(code, None if value == export.NONE else values[value]),
         "relatedLocations": [location(*at, says) for at, says in zip(spans, OTHERS.get(code, ()))],
     }
 

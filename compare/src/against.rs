@@ -8,11 +8,25 @@ use crate::show::show;
 use std::io::{Read, Write};
 use std::process::{Command, Stdio};
 
-/// A program, and whether it takes many files at once or one at each start.
+/// The choice of strict keys in a request.
+const STRICT: u32 = 1;
+
+/// What a program takes on standard input.
+#[derive(Clone, Copy, PartialEq)]
+pub enum Takes {
+    /// One file at each start, as document 01's listing program.
+    File,
+    /// Many, each after its length, as `compare list --batch`.
+    Files,
+    /// Requests, as the program desk.
+    Requests,
+}
+
+/// A program, and how it is asked.
 pub struct Program {
     pub words: Vec<String>,
-    pub each: bool,
-    /// Strict keys are asked for at each file's length, by its highest bit.
+    pub takes: Takes,
+    /// The keys of its lists; only a request asks for them, other programs have one sort.
     pub keys: Mode,
     /// Files for one start of a program that takes many.
     pub chunk: usize,
@@ -39,7 +53,7 @@ impl Program {
 
     /// Its listing for each file.
     pub fn lists(&self, files: &[Vec<u8>]) -> Result<Vec<String>, String> {
-        if self.each {
+        if self.takes == Takes::File {
             return files.iter().map(|f| self.run(f.clone())).collect();
         }
         let mut out: Vec<String> = Vec::new();
@@ -57,22 +71,22 @@ impl Program {
     }
 
     fn joined(&self, files: &[Vec<u8>]) -> Vec<u8> {
-        match self.keys {
-            Mode::Ordinary => batch::join(files),
-            Mode::Strict => batch::join_strict(files),
+        match (self.takes, self.keys) {
+            (Takes::Requests, Mode::Ordinary) => batch::requests(files, 0),
+            (Takes::Requests, Mode::Strict) => batch::requests(files, STRICT),
+            _ => batch::join(files),
         }
     }
 
-    /// A program for one file is document 01's own; one for many is the joined call.
     fn wanted(&self, file: &[u8]) -> String {
         let source = match self.keys {
             Mode::Ordinary => Rust,
             Mode::Strict => Rules(Mode::Strict),
         };
-        if self.each {
-            source.listing(file, None)
-        } else {
-            source.answer(file, None)
+        match self.takes {
+            Takes::File => source.listing(file, None),
+            Takes::Files => source.answer(file, None),
+            Takes::Requests => source.desk(file),
         }
     }
 }

@@ -14,24 +14,21 @@ pub fn split(mut bytes: &[u8]) -> Result<Vec<Vec<u8>>, String> {
     Ok(out)
 }
 
-/// In a length's highest bit: strict keys.
-const STRICT: u32 = 1 << 31;
+fn joined(files: &[Vec<u8>], head: impl Fn(&[u8]) -> Vec<u8>) -> Vec<u8> {
+    files.iter().flat_map(|file| [head(file), file.clone()].concat()).collect()
+}
 
-fn joined(files: &[Vec<u8>], flag: u32) -> Vec<u8> {
-    let mut out = Vec::new();
-    for file in files {
-        out.extend((file.len() as u32 | flag).to_le_bytes());
-        out.extend(file);
-    }
-    out
+fn length(file: &[u8]) -> [u8; 4] {
+    (file.len() as u32).to_le_bytes()
 }
 
 pub fn join(files: &[Vec<u8>]) -> Vec<u8> {
-    joined(files, 0)
+    joined(files, |file| length(file).to_vec())
 }
 
-pub fn join_strict(files: &[Vec<u8>]) -> Vec<u8> {
-    joined(files, STRICT)
+/// Requests to the program desk: before each file's length what is asked of it.
+pub fn requests(files: &[Vec<u8>], choices: u32) -> Vec<u8> {
+    joined(files, |file| [choices.to_le_bytes(), length(file)].concat())
 }
 
 /// Each listing with its own lines, the `--` taken away.

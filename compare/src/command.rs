@@ -1,5 +1,5 @@
 //! The command line.
-use crate::against::{against, with_lists, Program};
+use crate::against::{against, with_lists, Program, Takes};
 use crate::batch::{self, input, print, print_all};
 use crate::coverage::Coverage;
 use crate::judge::judge;
@@ -16,14 +16,15 @@ const USAGE: &str = "usage:
                                       the same by document 01's rules, without the Rust
   compare judge [--batch]             `valid` or `refused N P`
   compare show                        a file's nodes by name
-  compare make [--seed S] [--from I] [--count N] [--any-order] [--damage]
+  compare make [--seed S] [--from I] [--count N] [--any-order] [--damage] [--long]
                                       generated files, each after its length, on standard output
   compare sized SORT                  trees of one sort at growing numbers of nodes, each after its length;
                                       SORT: straight, loops, dicts, names
   compare coverage FILES..            what files show
   compare lists FILES LISTS           the Rust beside lists written before
-  compare against [--each] [--strict] [--chunk N] [--as-found] FILES.. -- PROGRAM ..
-                                      the Rust beside a program; strict keys: document 01's rules beside it
+  compare against [--each | --desk] [--strict] [--chunk N] [--as-found] FILES.. -- PROGRAM ..
+                                      the Rust beside a program; strict keys: document 01's rules beside it.
+                                      PROGRAM takes files as --batch has them; --each: one file a start; --desk: requests
   compare record [--seed S] [--count N] [--bytes N] FOLDER
                                       chooses and writes the recorded list
 P: names, flow, incompatible, dubious. FILES hold many files, each after its length.";
@@ -97,12 +98,16 @@ pub fn run(words: &[String]) -> Result<bool, String> {
             print(show(&input()).as_bytes());
             Ok(true)
         }
-        "make" => make(Words::new(words, &["--seed", "--from", "--count"], &["--any-order", "--damage"])?),
+        "make" => {
+            make(Words::new(words, &["--seed", "--from", "--count"], &["--any-order", "--damage", "--long"])?)
+        }
         "sized" => sized(Words::new(words, &[], &[])?),
         "coverage" => coverage(Words::new(words, &[], &[])?),
         "lists" => lists(Words::new(words, &[], &[])?),
         "record" => record(Words::new(words, &["--seed", "--count", "--bytes"], &[])?),
-        "against" => beside(Words::new(words, &["--chunk"], &["--each", "--strict", "--as-found"])?),
+        "against" => {
+            beside(Words::new(words, &["--chunk"], &["--each", "--desk", "--strict", "--as-found"])?)
+        }
         _ => Err(USAGE.to_owned()),
     }
 }
@@ -141,7 +146,8 @@ fn judged(words: Words) -> Result<bool, String> {
 
 fn plan(words: &Words) -> Result<Plan, String> {
     let seed = words.number("--seed", 1)?;
-    Ok(Plan { seed, any_order: words.has("--any-order"), damage: words.has("--damage") })
+    let has = |flag| words.has(flag);
+    Ok(Plan { seed, any_order: has("--any-order"), damage: has("--damage"), long: has("--long") })
 }
 
 fn make(words: Words) -> Result<bool, String> {
@@ -191,7 +197,13 @@ fn beside(words: Words) -> Result<bool, String> {
     }
     let chunk = words.number("--chunk", 1000)?.max(1) as usize;
     let keys = if words.has("--strict") { Mode::Strict } else { Mode::Ordinary };
-    let program = Program { words: words.after.clone(), each: words.has("--each"), keys, chunk };
+    let takes = match (words.has("--each"), words.has("--desk")) {
+        (false, false) => Takes::Files,
+        (true, false) => Takes::File,
+        (false, true) => Takes::Requests,
+        (true, true) => return Err(USAGE.to_owned()),
+    };
+    let program = Program { words: words.after.clone(), takes, keys, chunk };
     let found = against(&program, &words.files()?, !words.has("--as-found"))?;
     print(found.report().as_bytes());
     Ok(found.count == 0)

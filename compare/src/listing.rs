@@ -6,8 +6,11 @@ use std::cell::Cell;
 use std::fmt::Write;
 
 pub const PASSES: [&str; 4] = ["names", "flow", "incompatible", "dubious"];
+/// The listing program's room in records, and the bytes that it reads.
 const ROOM: usize = 2048;
 const LONGEST: usize = 49152;
+/// The bytes that the program desk reads: no valid tree has more.
+const LONGEST_TREE: usize = 149515;
 
 thread_local! {
     static IN_THE_RUST: Cell<bool> = const { Cell::new(false) };
@@ -60,14 +63,23 @@ impl Source {
 
     /// What the listing program prints; of all passes, or of one alone.
     pub fn listing(self, bytes: &[u8], pass: Option<usize>) -> String {
-        if bytes.len() > LONGEST {
-            return "too long\n".to_owned();
-        }
-        self.answer(bytes, pass)
+        self.printed(bytes, pass, LONGEST, ROOM)
     }
 
-    /// The same for a file of any length, as the joined call would answer.
+    /// What the program desk prints in an answer, but for the line that ends it.
+    pub fn desk(self, bytes: &[u8]) -> String {
+        self.printed(bytes, None, LONGEST_TREE, usize::MAX)
+    }
+
+    /// What the joined call answers to a file of any length, with room for any list.
     pub fn answer(self, bytes: &[u8], pass: Option<usize>) -> String {
+        self.printed(bytes, pass, usize::MAX, usize::MAX)
+    }
+
+    fn printed(self, bytes: &[u8], pass: Option<usize>, longest: usize, room: usize) -> String {
+        if bytes.len() > longest {
+            return "too long\n".to_owned();
+        }
         if let Some((number, place)) = judge(bytes) {
             return format!("refused {number} {place}\n");
         }
@@ -78,7 +90,7 @@ impl Source {
             Some(i) => passes[i].clone(),
             None => passes.concat(),
         };
-        if all.len() > ROOM {
+        if all.len() > room {
             return format!("refused 11 {}\n", all.len());
         }
         lines(&all)

@@ -19,6 +19,8 @@ pub struct Plan {
     /// Children in any order that document 01 allows, else in its lists' order.
     pub any_order: bool,
     pub damage: bool,
+    /// With values up to the limits, which most trees have no use for.
+    pub long: bool,
 }
 
 impl Plan {
@@ -26,7 +28,8 @@ impl Plan {
     pub fn words(&self, index: u64) -> String {
         let order = if self.any_order { " --any-order" } else { "" };
         let damage = if self.damage { " --damage" } else { "" };
-        format!("--seed {} --from {index} --count 1{order}{damage}", self.seed)
+        let long = if self.long { " --long" } else { "" };
+        format!("--seed {} --from {index} --count 1{order}{damage}{long}", self.seed)
     }
 
     pub fn file(&self, index: u64) -> Vec<u8> {
@@ -48,6 +51,9 @@ impl Plan {
             order::shuffle(&mut tree.root, r);
         }
         spans::give(&mut tree.root, r);
+        if self.long {
+            limits::lengthen(&mut tree);
+        }
         tree
     }
 }

@@ -20,6 +20,13 @@ pub fn tree(r: &mut Random) -> Tree {
     }
 }
 
+/// Names of 255 bytes as far as there is room for values, and as globals where those are given.
+pub fn lengthen(tree: &mut Tree) {
+    let names = (tree.values().len()..512).map(|i| format!("{i:0255}").into_bytes());
+    tree.spare.extend(names.clone().map(|name| (0, name)));
+    tree.globals.iter_mut().for_each(|globals| globals.extend(names.clone()));
+}
+
 fn use_of(name: &[u8]) -> Node {
     Node::new(5, 0, vec![Node::with(20, 4, (0, name.to_vec()))])
 }

@@ -11,3 +11,9 @@ pub fn take_in(buf: &mut [u8], n: usize) -> usize
     }
     io::read_full(STDIN_FILENO, buf)
 }
+
+// Where a read failed, as of a folder or a closed descriptor, the next read fails too; at the end it gives 0.
+pub fn unreadable() -> bool {
+    let mut more = [0u8; 1];
+    libc::read(STDIN_FILENO, &mut more) < 0
+}

@@ -1,9 +1,6 @@
 -- Laws that the proofs cite, and what is proved of the texts.
-pub mod Pages
-pub mod Going
 pub mod Leading
 pub mod Pieces
-pub mod Decimals
 pub mod Plain
 pub mod Characters
 pub mod Kept

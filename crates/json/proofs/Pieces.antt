@@ -9,8 +9,8 @@ use lib.ListN.{length, getD, drop}
 use lib.Seq.{drop-cons}
 use Rattle.json.specs.Utf8.{more, whole, front}
 use Rattle.json.specs.Escape.{must, hex-digit, hex, six, replacement, ascii-byte, unit, escape, first, left, hexes}
-use Rattle.json.specs.Page.{Wrote}
-use Rattle.json.proofs.Pages.{then, retold}
+use Rattle.page.specs.Page.{Wrote}
+use Rattle.page.proofs.Pages.{then, retold}
 
 module _ {o o₁ : List ℕ} {n n₁ : ℕ} where
   pub hex-wrote : {o₂ : List ℕ} {n₂ : ℕ} (b : ℕ) {x y : ℕ} → x ≡ hex-digit (b / 16 % 16) → y ≡ hex-digit (b % 16)
@@ -71,9 +71,6 @@ left-begin s zero f h e = rw e
 left-begin s (suc k) f h e = absurd (omega arith)
 
 -- ---- what a loop has still to write, one byte taken off
-
-pub bytes-next : (s : List ℕ) (i : ℕ) → i < length s → drop i s ≡ (getD s i 0 ∷ []) ++ drop (i + 1) s
-bytes-next s i h = rw (add-one, drop-cons s i 0)
 
 pub hexes-next : (s : List ℕ) (i : ℕ) → i < length s → hexes (drop i s) ≡ hex (getD s i 0) ++ hexes (drop (i + 1) s)
 unfolding hexes

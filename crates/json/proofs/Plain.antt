@@ -9,8 +9,8 @@ use borrow.Author.Tests.{le-leb, lt-leb, ne-eqb, ltb-true, ltb-false}
 use Rattle.base.proofs.Bools.{so, nope, and-left, and-right, both}
 use Rattle.json.specs.Utf8.{within, front}
 use Rattle.json.specs.Escape.{must, hex-digit, hex, hexes, unit, escape, escaped}
-use Rattle.json.specs.Digits.{decimal}
-use Rattle.json.proofs.Decimals.{by-digits}
+use Rattle.page.specs.Digits.{decimal}
+use Rattle.page.proofs.Decimals.{by-digits}
 
 -- a byte of 0x20 to 0x7F that is neither a quotation mark nor a reverse solidus
 abbrev pub plain : ℕ → Bool

@@ -5,7 +5,7 @@ use mathlib.Core.List.{List, [], _∷_, _++_}
 use lib.Dec.{T, eqb, leb, le→leb, nleb→lt}
 use Rattle.base.proofs.Bools.{and-left, and-right, both, nor-left}
 use Rattle.json.specs.Escape.{must, hex, six, escaped}
-use Rattle.json.specs.Digits.{decimal}
+use Rattle.page.specs.Digits.{decimal}
 use Rattle.json.specs.Kept.{clear, Escaped, end, kept, marked, replaced}
 use Rattle.json.proofs.Plain.{plain, all-plain, plain-low, decimal-plain, hex-plain}
 use Rattle.json.proofs.Kept.{escaped-so}

@@ -11,11 +11,11 @@ use Rattle.json.specs.Utf8.{within, Char, one, two, three-e0, three-ec, 
 use Rattle.json.specs.Grammar.{Name, Is, digit, hexdig, unescaped, Minus}
 use Rattle.json.specs.Escape.{must, hex-digit, hex, six, escaped}
 use Rattle.json.specs.Kept.{clear, Escaped, end, kept, marked, replaced}
-use Rattle.json.specs.Digits.{digits, decimal}
+use Rattle.page.specs.Digits.{digits, decimal}
 use Rattle.json.specs.Text.{Json, string, number, array, rows, object, Items, nil, item, Members, done, _⨾_, Member, _⇒_, quoted, comma, text, items, lines, members, member}
 use Rattle.json.proofs.Characters.{within-high, within-so, apart}
 use Rattle.json.proofs.Kept.{must-most, escaped-so}
-use Rattle.json.proofs.Decimals.{by-digits}
+use Rattle.page.proofs.Decimals.{by-digits}
 
 -- ---- strings
 

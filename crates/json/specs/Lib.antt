@@ -2,7 +2,5 @@
 pub mod Utf8
 pub mod Grammar
 pub mod Escape
-pub mod Digits
 pub mod Text
-pub mod Page
 pub mod Kept

@@ -5,7 +5,7 @@ use mathlib.Core.Bool.{Bool, true, false}
 use mathlib.Core.List.{List, _∷_, _++_}
 use Rattle.base.specs.Ascii.{ascii}
 use Rattle.json.specs.Escape.{escaped}
-use Rattle.json.specs.Digits.{decimal}
+use Rattle.page.specs.Digits.{decimal}
 
 infixr 4 _⨾_
 infix 5 _⇒_

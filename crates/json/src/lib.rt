@@ -4,62 +4,12 @@ ghost use mathlib.Core.Path.{_≡_};
 ghost use mathlib.Core.List.{_∷_, _++_};
 ghost use Prim.Native.Nat.{_+_, _*_, _≤_, _<_};
 ghost use lib.ListN.{length, drop, getD};
-ghost use Rattle.base.specs.Count.{one-more};
-ghost use Rattle.json.specs.Page.{Wrote};
-ghost use Rattle.json.specs.Digits.{decimal};
+ghost use Rattle.page.specs.Page.{Wrote};
 ghost use Rattle.json.specs.Text.{quoted as quoted-text};
 ghost use Rattle.json.specs.Utf8.{more as more-bytes, low as least, high as greatest, second as second-fits, tail as tail-fits, whole as whole-char, front as front-char};
 ghost use Rattle.json.specs.Escape.{must as must-escape, hex-digit as digit-of, hex as hex-of, six as six-of, ascii-byte as ascii-of, unit as unit-of, escape as escape-from, hexes as hexes-of, first as first-of, left as left-of};
-
-fn up(n: usize) -> usize
-    ensures { λ r. ⌜ r ≡ one-more n ⌝ }
-{
-    if n < 18446744073709551615 {
-        return n + 1;
-    }
-    n
-}
-
-pub fn put(out: &mut [u8], n: usize, b: u8) -> usize
-    ensures { λ r. ⌜ Wrote (now (out .entry)) n (now (out .exit)) r 1 (λ rest. b ∷ rest) ⌝ }
-{
-    if n < out.len() {
-        out[n] = b;
-        return n + 1;
-    }
-    up(n)
-}
-
-// Bytes as they stand.
-pub fn raw(out: &mut [u8], n: usize, s: &[u8]) -> usize
-    ensures { λ r. ⌜ Wrote (now (out .entry)) n (now (out .exit)) r (length (now (s .entry))) (λ rest. now (s .entry) ++ rest) ⌝ }
-{
-    let mut at = n;
-    let mut i = 0;
-    while i < s.len() {
-        at = put(out, at, s[i]);
-        i += 1;
-    }
-    at
-}
-
-fn digit(d: u32) -> u8
-    requires { ⌜ d < 10 ⌝ }
-    ensures { λ r. ⌜ r ≡ 48 + d ⌝ }
-{
-    48 + d as u8
-}
-
-// A number in decimal digits: no number of 32 bits has more than ten.
-pub fn number(out: &mut [u8], n: usize, x: u32) -> usize
-    ensures { λ r. ⌜ Wrote (now (out .entry)) n (now (out .exit)) r 10 (λ rest. decimal x ++ rest) ⌝ }
-{
-    if x < 10 {
-        return put(out, n, digit(x));
-    }
-    let at = number(out, n, x / 10);
-    put(out, at, digit(x % 10))
-}
+use page::put;
+use page::raw;
 
 fn hex_digit(d: u8) -> u8
     requires { ⌜ d < 16 ⌝ }

@@ -4,8 +4,8 @@ use native.Mathlib.Omega.{arith}
 use borrow.Author.Tests.{le-leb}
 use mathlib.Core.Path.{_≡_, ap, _∙_}
 use mathlib.Core.List.{List, _∷_, _++_, append-assoc}
-use Rattle.json.specs.Digits.{decimal}
-use Rattle.json.proofs.Decimals.{by-digits}
+use Rattle.page.specs.Digits.{decimal}
+use Rattle.page.proofs.Decimals.{by-digits}
 use Rattle.log.specs.Reader.{digits}
 
 -- one digit more is read

@@ -2,9 +2,9 @@
 use Prim.Native.Nat.{ℕ, _<_}
 use native.Mathlib.Omega.{arith}
 use Prim.Native.String.{String}
-use mathlib.Core.Path.{_≡_, refl, ap, _∙_}
+use mathlib.Core.Path.{_≡_, refl, ap}
 use mathlib.Core.Bool.{Bool, true, false, cond, _&&_, not}
-use mathlib.Core.List.{List, [], _∷_, _++_}
+use mathlib.Core.List.{List, [], _∷_}
 use lib.Dec.{T, eqb, leb, leb→le}
 use borrow.Author.Tests.{ne-eqb}
 use Rattle.tree.specs.Values.{Value}
@@ -14,11 +14,12 @@ use Rattle.rules.specs.Codes.{disabled}
 use Rattle.base.proofs.Bools.{and-left, and-right, both}
 use Rattle.rules.proofs.Look.{all-so, look-so, unlisted, look-none}
 use Rattle.json.specs.Escape.{escaped, hexes}
-use Rattle.json.specs.Digits.{decimal}
-use Rattle.json.proofs.Plain.{all-plain, plain-escaped, plain-same, decimal-plain, hexes-plain}
+use mathlib.Core.Option.{Option, none, some}
+use Rattle.page.specs.Digits.{decimal}
+use Rattle.json.proofs.Plain.{all-plain, plain-append, plain-same, decimal-plain, hexes-plain}
 use Rattle.codes.specs.Named.{severity-of}
 use Rattle.codes.specs.declared.EvalSeverity.the-variants.{Disabled, Warning}
-use Rattle.log.specs.Words.{phrases, kinds, seconds, thirds, phrase, kind-word, shown, said}
+use Rattle.log.specs.Words.{phrases, kinds, seconds, thirds, phrase, kind-word, shown, after-phrase, message-text}
 use Rattle.log.specs.Log.{level}
 use Rattle.rules.specs.Joined.{codes}
 
@@ -49,28 +50,31 @@ kind-plain : (k : ℕ) → T (all-plain (kind-word k))
 unfolding kind-word
 kind-plain k = look-so (λ n s. all-plain (ascii s)) k kinds "" tt tt
 
-pub phrase-before : (c : ℕ) (s : List ℕ) → escaped (phrase c ++ s) ≡ phrase c ++ escaped s
-phrase-before c s = plain-escaped (phrase c) s (phrase-plain c)
+after-phrase-plain : (o : Option Value) → T (all-plain (after-phrase o))
+unfolding after-phrase
+after-phrase-plain none = tt
+after-phrase-plain (some v) = plain-append (kind-word (v .kind)) (ascii "{0}") (kind-plain (v .kind)) tt
 
-pub said-text : (v : Value) → leb (v .kind) 2 ≡ true → escaped (said v) ≡ kind-word (v .kind) ++ escaped (v .bytes)
-unfolding said shown
-said-text v e = plain-escaped (kind-word (v .kind)) (shown v) (kind-plain (v .kind)) ∙ rw e
+pub message-same : (c : ℕ) (o : Option Value) → escaped (message-text c o) ≡ message-text c o
+message-same c o = plain-same (message-text c o) (plain-append (phrase c) (after-phrase o) (phrase-plain c) (after-phrase-plain o))
 
-pub said-number : (v : Value) → leb (v .kind) 2 ≡ false → escaped (said v) ≡ kind-word (v .kind) ++ hexes (v .bytes)
-unfolding said shown
-said-number v e =
-    plain-escaped (kind-word (v .kind)) (shown v) (kind-plain (v .kind))
-    ∙ rw e (ap (λ (l : List ℕ). kind-word (v .kind) ++ l) (plain-same (hexes (v .bytes)) (hexes-plain (v .bytes))))
+pub shown-text : (v : Value) → leb (v .kind) 2 ≡ true → escaped (shown v) ≡ escaped (v .bytes)
+unfolding shown
+shown-text v e = rw e
+
+pub shown-number : (v : Value) → leb (v .kind) 2 ≡ false → escaped (shown v) ≡ hexes (v .bytes)
+unfolding shown
+shown-number v e = rw e (plain-same (hexes (v .bytes)) (hexes-plain (v .bytes)))
 
 pub decimal-same : (n : ℕ) → escaped (decimal n) ≡ decimal n
 decimal-same n = plain-same (decimal n) (decimal-plain n)
 
+either-same : (b : Bool) (x y : List ℕ) → T (all-plain x) → T (all-plain y) → escaped (cond b x y) ≡ cond b x y
+either-same true x y p q = plain-same x p
+either-same false x y p q = plain-same y q
+
 pub level-same : (c : ℕ) → escaped (level c) ≡ level c
-level-same c = go (disabled c)
-  where
-    go : (b : Bool) → escaped (cond b (ascii "none") (ascii "warning")) ≡ cond b (ascii "none") (ascii "warning")
-    go true = plain-same (ascii "none") tt
-    go false = plain-same (ascii "warning") tt
+level-same c = either-same (disabled c) (ascii "none") (ascii "warning") tt tt
 
 -- ---- a severity tells whether a code is disabled
 

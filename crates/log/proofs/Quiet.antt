@@ -12,11 +12,11 @@ use Rattle.rules.specs.Record.{Rec, Span}
 use Rattle.base.specs.Ascii.{ascii}
 use Rattle.rules.specs.Visit.{look}
 use Rattle.json.specs.Escape.{escaped}
-use Rattle.json.specs.Digits.{decimal}
+use Rattle.page.specs.Digits.{decimal}
 use Rattle.json.specs.Text.{Json, string, number, array, rows, object, Items, nil, item, Members, done, _⨾_, Member, _⇒_, quoted, comma, text, items, members, member}
 use Rattle.json.proofs.Shown.{shows, escaped-shows, decimal-shows}
 use Rattle.log.specs.Words.{seconds, thirds}
-use Rattle.log.specs.Log.{other, related}
+use Rattle.log.specs.Log.{strings, other, related}
 use Rattle.log.specs.Reader.{read}
 
 -- no byte of these ends a line
@@ -78,6 +78,10 @@ mutual
 
   after-member : (m : Member) → Plain-member m → (rest : List ℕ) → read (member m rest) ≡ read rest
   after-member (key ⇒ x) p rest = after-quoted (ascii key) (0x3A ∷ text x rest) ∙ after-text x p rest
+
+pub strings-plain : (ss : List (List ℕ)) → Plain-items (strings ss)
+strings-plain [] = tt
+strings-plain (s ∷ ss) = (tt, strings-plain ss)
 
 other-plain : (w : String) (s : Span) (xs : Items) → Plain-items xs → Plain-items (other w s xs)
 unfolding other

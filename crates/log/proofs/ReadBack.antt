@@ -6,22 +6,22 @@ use mathlib.Core.Bool.{Bool, true, false}
 use mathlib.Core.List.{List, [], _∷_, _++_, map, append-nil}
 use mathlib.Core.Option.{Option, none, some}
 use lib.Dec.{ltb}
-use Rattle.tree.specs.Table.{tableOf, at}
+use Rattle.tree.specs.Table.{tableOf}
 use Rattle.rules.specs.Record.{Rec}
 use Rattle.rules.specs.Joined.{tally-of}
 use Rattle.base.specs.Ascii.{ascii}
 use Rattle.json.specs.Utf8.{front}
 use Rattle.json.specs.Escape.{escape, escaped, unit}
-use Rattle.json.specs.Digits as to
-use Rattle.json.specs.Digits.{decimal}
+use Rattle.page.specs.Digits as to
+use Rattle.page.specs.Digits.{decimal}
 use Rattle.json.specs.Text.{Json, string, rows, Items, done, _⨾_, _⇒_, comma, text, lines, members}
 use Rattle.spans.specs.Fit.{Fit, Each}
-use Rattle.log.specs.Words.{phrase, said}
-use Rattle.log.specs.Log.{only, one, _is_, level, message, index-of, related, result, results, rule, if-any, rules, log, sarif-log}
+use Rattle.log.specs.Words.{value-of, arguments}
+use Rattle.log.specs.Log.{only, one, _is_, level, result-kind, message-of, index-of, related, result, results, rule, if-any, rules, log, sarif-log}
 use Rattle.log.specs.Reader.{Found, expect, digits, result-at, found-before, read, found}
 use Rattle.log.proofs.Decimal.{number-reads}
 use Rattle.log.proofs.Plainly.{decimal-same}
-use Rattle.log.proofs.Quiet.{after-text, related-plain}
+use Rattle.log.proofs.Quiet.{after-text, strings-plain, related-plain}
 
 abbrev opening : List ℕ
 opening = ascii "{\"ruleId\":\""
@@ -47,8 +47,9 @@ abbrev after-span : List ℕ → Rec → List ℕ → List ℕ
 after-span t r rest =
     0x7D ∷ 0x7D ∷ 0x5D
     ∷ members false
-    ("level" ⇒ string (level (r .code))
-    ⨾ message (phrase (r .code) ++ said (at (tableOf t) (r .spot .value)))
+    ("kind" ⇒ string (result-kind (r .code))
+    ⨾ "level" ⇒ string (level (r .code))
+    ⨾ message-of (r .code) (value-of (tableOf t) (r .spot .value))
     ⨾ "relatedLocations" ⇒ Json.array (related r)
     ⨾ done) (0x7D ∷ rest)
 
@@ -64,7 +65,8 @@ result-found t tally r rest h =
 after-result : (t tally : List ℕ) (r : Rec) (rest : List ℕ) → read (text (result t tally r) rest) ≡ read rest
 unfolding result
 after-result t tally r rest =
-    after-text (result t tally r) (tt, (tt, (omega arith, (tt, (omega arith, (related-plain r, tt)))))) rest
+    let args = strings-plain (arguments (value-of (tableOf t) (r .spot .value))) in
+    after-text (result t tally r) (tt, (tt, (omega arith, (tt, (tt, ((tt, (args, tt)), (related-plain r, tt))))))) rest
 
 -- a rule's line is no result
 rule-no-result : (c : ℕ) (rest : List ℕ) → result-at (text (rule c) rest) ≡ none

@@ -6,6 +6,7 @@ use borrow.Author.Tests.{ltb-true, ltb-false, eqb-true, eqb-false}
 use mathlib.Core.Path.{_≡_, refl, ap}
 use mathlib.Core.Bool.{Bool, true, false, cond, _&&_}
 use mathlib.Core.List.{List, [], _∷_, _++_}
+use mathlib.Core.Option.{Option, none, some}
 use lib.Dec.{T, eqb, leb, ltb, leb→le, le→leb}
 use lib.ListN.{length, take}
 use Rattle.base.specs.Ascii.{ascii}
@@ -26,14 +27,14 @@ use Rattle.base.proofs.Bools.{and-left, and-right}
 use Rattle.rules.proofs.Look.{look-so}
 use Rattle.json.specs.Utf8.{front}
 use Rattle.json.specs.Escape.{unit, escape, escaped, hexes}
-use Rattle.json.specs.Digits as to
-use Rattle.json.specs.Digits.{decimal}
+use Rattle.page.specs.Digits as to
+use Rattle.page.specs.Digits.{decimal}
 use Rattle.json.specs.Text.{Items, nil}
-use Rattle.json.proofs.Decimals.{few-digits, decimal-few}
+use Rattle.page.proofs.Decimals.{few-digits, decimal-few}
 use Rattle.spans.specs.Fit.{Fit, Each}
 use Rattle.spans.proofs.Whole.{file-fit}
-use Rattle.log.specs.Words.{seconds, thirds, kinds, phrase, kind-word, shown, said}
-use Rattle.log.specs.Log.{level, place, message, other, related, nonzeros, index-of, result, results, rule, if-any, rules, sarif-log, log}
+use Rattle.log.specs.Words.{seconds, thirds, kinds, phrase, kind-word, shown, value-of, after-phrase, message-text, arguments}
+use Rattle.log.specs.Log.{level, result-kind, place, message, message-of, strings, other, related, nonzeros, index-of, result, results, rule, if-any, rules, sarif-log, log}
 use Rattle.log.specs.Size.{Bounded}
 use Rattle.log.proofs.Plainly.{decimal-same}
 use Rattle.log.proofs.Weight.{weight, escaped-length, weight-append, weight-most, hexes-weight}
@@ -50,13 +51,31 @@ kind-most k =
     (look-so q k kinds "" tt (le→leb 0 (cond (leb k 2) 8 16) (omega arith)))
 
 -- "a string's byte takes at most six bytes", and a number's two of hexadecimal digits
-said-most : (v : Value) → length (v .bytes) ≤ 255 → weight (said v) ≤ 1538
-unfolding said shown
-said-most v h = rw (weight-append (kind-word (v .kind)) (shown v)) (go (leb (v .kind) 2) (kind-most (v .kind)))
+said-most : (v : Value) → length (v .bytes) ≤ 255 → weight (kind-word (v .kind)) + weight (shown v) ≤ 1538
+unfolding shown
+said-most v h = go (leb (v .kind) 2) (kind-most (v .kind))
   where
     go : (b : Bool) → weight (kind-word (v .kind)) ≤ cond b 8 16 → weight (kind-word (v .kind)) + weight (cond b (v .bytes) (hexes (v .bytes))) ≤ 1538
     go true k = omega (arith, weight-most (v .bytes))
     go false k = omega (arith, hexes-weight (v .bytes))
+
+abbrev Short : Option Value → Type 0
+Short none = Unit {0}
+Short (some v) = length (v .bytes) ≤ 255
+
+value-short : (vs : List Value) (v : ℕ) → length (at vs v .bytes) ≤ 255 → Short (value-of vs v)
+value-short vs v h = go (ltb v (length vs))
+  where
+    go : (b : Bool) → Short (cond b (some (at vs v)) none)
+    go true = h
+    go false = tt
+
+-- the value of a record, with the placeholder and the argument's marks
+value-most : (o : Option Value) → Short o → weight (after-phrase o) + items-size true (strings (arguments o)) ≤ 1543
+unfolding after-phrase arguments size
+value-most none h = omega arith
+value-most (some v) h =
+    omega (arith, weight-append (kind-word (v .kind)) (ascii "{0}"), escaped-length (shown v), said-most v h)
 
 -- ---- a place, and the related locations
 
@@ -71,6 +90,11 @@ place-most s u = omega (arith, decimal-few (s .begin) (u .begin), decimal-few (s
 message-size : (s : List ℕ) → member-size (message s) ≡ 21 + length (escaped s)
 unfolding size escape unit front
 message-size s = omega arith
+
+message-of-size : (c : ℕ) (o : Option Value)
+    → member-size (message-of c o) ≡ 36 + (length (escaped (message-text c o)) + items-size true (strings (arguments o)))
+unfolding size escape unit front
+message-of-size c o = omega arith
 
 -- a location with these words is at most so large; after another it has a comma
 abbrev other-most : String → ℕ
@@ -124,8 +148,8 @@ index-digits tally c h = go (ltb c 11) refl
 
 abbrev code-most : ℕ → ℕ
 code-most c =
-    length (decimal c) + (cond (ltb c 11) 1 2 + (length (escaped (level c)) + (weight (phrase c)
-    + (other-most (look c seconds "") + later-most (look c thirds "")))))
+    length (decimal c) + (cond (ltb c 11) 1 2 + (length (escaped (result-kind c)) + (length (escaped (level c)) + (weight (phrase c)
+    + (other-most (look c seconds "") + later-most (look c thirds ""))))))
 
 abbrev all-below : ℕ → (ℕ → Bool) → Bool
 all-below zero q = true
@@ -141,33 +165,33 @@ below q (suc n) c t h =
     below-step q n c (eqb c n) refl (and-left (q n) (all-below n q) t)
     (λ e. let ne = eqb-false c n e in below q n c (and-right (q n) (all-below n q) t) (omega arith))
 
-codes-most : T (all-below (suc codes) (λ c. leb (code-most c) 420))
+codes-most : T (all-below (suc codes) (λ c. leb (code-most c) 424))
 unfolding phrase decimal to.digits escape unit front
 codes-most = tt
 
-code-so : (c : ℕ) → c ≤ codes → code-most c ≤ 420
-code-so c h = leb→le (code-most c) 420 (below (λ c. leb (code-most c) 420) (suc codes) c codes-most (omega arith))
+code-so : (c : ℕ) → c ≤ codes → code-most c ≤ 424
+code-so c h = leb→le (code-most c) 424 (below (λ c. leb (code-most c) 424) (suc codes) c codes-most (omega arith))
 
-result-most : (t tally : List ℕ) (r : Rec) → Bounded t r → size (result t tally r) ≤ 2186
+result-most : (t tally : List ℕ) (r : Rec) → Bounded t r → size (result t tally r) ≤ 2220
 unfolding result size escape unit front
 result-most t tally r b =
     let c = r .code in
-    let v = at (tableOf t) (r .spot .value) in
+    let o = value-of (tableOf t) (r .spot .value) in
     omega (
       arith,
       code-so c (b .a-code),
       ap length (decimal-same c),
       index-digits tally c (b .a-code),
       place-most (span-of (r .spot)) (omega (arith, b .each-u32)),
-      escaped-length (phrase c ++ said v),
-      weight-append (phrase c) (said v),
-      said-most v (b .short-value),
-      message-size (phrase c ++ said v),
+      escaped-length (message-text c o),
+      weight-append (phrase c) (after-phrase o),
+      value-most o (value-short (tableOf t) (r .spot .value) (b .short-value)),
+      message-of-size c o,
       related-most r (omega (arith, b .each-u32)) (omega (arith, b .each-u32)),
     )
 
 -- each after a comma
-results-most : (rs : List Rec) (t tally : List ℕ) → Each (Bounded t) rs → lines-size false (results t tally rs) ≤ 2188 * length rs
+results-most : (rs : List Rec) (t tally : List ℕ) → Each (Bounded t) rs → lines-size false (results t tally rs) ≤ 2222 * length rs
 unfolding results size
 results-most [] t tally h = omega arith
 results-most (r ∷ rs) t tally h = omega (arith, result-most t tally r (h .0), results-most rs t tally (h .1))
@@ -197,7 +221,7 @@ unfolding rules size
 no-rules = refl
 
 -- THE SIZE OF A LOG: of its own 246 bytes, with the rules and the first line less a comma each
-pub log-size : (t : List ℕ) (rs : List Rec) → Each (Bounded t) rs → length (log t rs) ≤ 1617 + 2188 * length rs
+pub log-size : (t : List ℕ) (rs : List Rec) → Each (Bounded t) rs → length (log t rs) ≤ 1617 + 2222 * length rs
 unfolding log size escape unit front results
 log-size t [] h = omega (arith, text-length (sarif-log t (tally-of []) []) (0x0A ∷ []), no-rules)
 log-size t (r ∷ rs) h =
@@ -249,6 +273,6 @@ short-values t f e v = go (ltb v (valueCount t)) refl
 
 -- THE LOG OF A VALID FILE whose list stands in words of 32 bits
 pub file-log-size : (t : List ℕ) (f : Facts) → judged t ≡ Valid f → (mode : Mode) → Each (λ w. w < 4294967296) (all-words (lint-list mode t))
-    → length (log t (lint-list mode t)) ≤ 1617 + 2188 * length (lint-list mode t)
+    → length (log t (lint-list mode t)) ≤ 1617 + 2222 * length (lint-list mode t)
 file-log-size t f e mode u =
     log-size t (lint-list mode t) (each-bounded t (short-values t f e) (lint-list mode t) (file-fit t f e mode) u)

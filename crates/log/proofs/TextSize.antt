@@ -7,7 +7,7 @@ use mathlib.Core.List.{List, _∷_}
 use lib.ListN.{length, length-append}
 use Rattle.base.specs.Ascii.{ascii}
 use Rattle.json.specs.Escape.{escaped}
-use Rattle.json.specs.Digits.{decimal}
+use Rattle.page.specs.Digits.{decimal}
 use Rattle.json.specs.Text.{Json, string, number, array, rows, object, Items, nil, item, Members, done, _⨾_, Member, _⇒_, quoted, comma, text, items, lines, members, member}
 
 abbrev pub comma-size : Bool → ℕ

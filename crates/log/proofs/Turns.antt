@@ -10,7 +10,7 @@ use lib.ListN.{length, take, drop, getD, drop-of-length-le}
 use lib.Seq.{drop-cons, drop-drop, getD-drop}
 use Rattle.rules.specs.Record.{Rec}
 use Rattle.rules.specs.Afterwards.{record-in, records-in}
-use Rattle.json.specs.Page.{page, writes, Wrote}
+use Rattle.page.specs.Page.{page, writes, Wrote}
 use Rattle.json.specs.Text.{comma, text, lines}
 use Rattle.log.specs.Log.{nonzeros, index-of, result, results, rule, if-any, rules}
 use Rattle.log.specs.Pieces.{rule-line}

@@ -4,10 +4,11 @@ use native.Mathlib.Omega.{arith}
 use native.Mathlib.Numerals.{add-one}
 use mathlib.Core.Path.{_≡_, refl, sym, ap, _∙_}
 use mathlib.Core.Bool.{true, false}
-use mathlib.Core.List.{List, [], _∷_, _++_, append-assoc}
+use mathlib.Core.Option.{none, some}
+use mathlib.Core.List.{List, [], _∷_, _++_}
 use lib.Dec.{leb, leb→le}
 use lib.ListN.{length, take, drop, getD, replicate, length-append, length-take}
-use borrow.Author.Tests.{le-leb, lt-leb}
+use borrow.Author.Tests.{le-leb, lt-leb, lt-ltb, le-ltb}
 use lib.Seq.{drop-cons, ext-getD}
 use Rattle.tree.specs.Bytes.{bytesFrom, nodeCount, valueCount, u16At}
 use Rattle.tree.specs.Values.{Value, valueFrom, offset, formed, form-as, sense}
@@ -17,7 +18,7 @@ use Rattle.tree.specs.declared.Facts.{Facts}
 use Rattle.tree.specs.declared.Judged.the-variants.{Valid}
 use Rattle.tree.proofs.Link.{length-from}
 use Rattle.tree.proofs.Whole.{sound}
-use Rattle.tree.proofs.TableLaws.{at-table}
+use Rattle.tree.proofs.TableLaws.{length-table, at-table}
 use Rattle.tree.proofs.ValidTable.{value-formed}
 use Rattle.tree.proofs.ValueLaws.{offset-next}
 use Rattle.base.proofs.Bools.{and-left}
@@ -25,9 +26,16 @@ use Rattle.rules.specs.Codes.{short-name}
 use Rattle.json.specs.Escape.{escape, hexes}
 use Rattle.codes.specs.Named.{named}
 use Rattle.codes.specs.declared.ShortName.{ShortName}
-use Rattle.log.specs.Words.{said, kind-word}
-use Rattle.log.proofs.Plainly.{said-text, said-number}
+use Rattle.log.specs.Words.{shown, value-of}
+use Rattle.log.proofs.Plainly.{shown-text, shown-number}
 use Rattle.log.specs.Pieces.{Here, Small, Starts}
+
+-- a number of the table stands for the value there, any other for none
+pub value-in : (t : List ℕ) (v : ℕ) → v < valueCount t → value-of (tableOf t) v ≡ some (valueFrom t (offset t (nodeCount t) v))
+value-in t v h = rw (lt-ltb v (length (tableOf t)) (omega (arith, length-table t))) (ap some (at-table t v h))
+
+pub value-past : (t : List ℕ) (v : ℕ) → valueCount t ≤ v → value-of (tableOf t) v ≡ none
+value-past t v h = rw (le-ltb v (length (tableOf t)) (omega (arith, length-table t)))
 
 -- the bytes of a part are those that a value has
 pub bytes-part : (k : ℕ) (t : List ℕ) (o : ℕ) → o + k ≤ length t → take k (drop o t) ≡ bytesFrom k t o
@@ -70,23 +78,21 @@ module _ (t : List ℕ) (f : Facts) (v : judged t ≡ Valid f) where
 
 -- ---- what is written of the value at o, of which k and n are the kind and the length
 
-module _ (t : List ℕ) (o k n : ℕ) (h : Here t o) (a : k ≡ getD t o 0) (b : n ≡ u16At t (o + 1)) where
+module _ (t : List ℕ) (o k n : ℕ) (h : Here t o) (a : k ≡ getD t o 0) (b : n ≡ u16At t (o + 1)) (rest : List ℕ) where
   part-is : take (o + 3 + n - (o + 3)) (drop (o + 3) t) ≡ valueFrom t o .bytes
   part-is =
       let e : o + 3 + n - (o + 3) ≡ u16At t (o + 1) = omega arith in
       rw e (bytes-part (u16At t (o + 1)) t (o + 3) (h .inside))
 
-  pub value-text : k ≤ 2 → (rest : List ℕ)
-      → kind-word k ++ (escape 0 (take (o + 3 + n - (o + 3)) (drop (o + 3) t)) ++ rest) ≡ escape 0 (said (valueFrom t o)) ++ rest
-  value-text l rest =
+  pub text-shown : k ≤ 2 → escape 0 (take (o + 3 + n - (o + 3)) (drop (o + 3) t)) ++ rest ≡ escape 0 (shown (valueFrom t o)) ++ rest
+  text-shown l =
       let z : leb (getD t o 0) 2 ≡ true = le-leb (getD t o 0) 2 (omega arith) in
-      rw (part-is, a, said-text (valueFrom t o) z) (sym (append-assoc (kind-word (getD t o 0)) (escape 0 (valueFrom t o .bytes)) rest))
+      rw (part-is, shown-text (valueFrom t o) z)
 
-  pub value-number : 2 < k → (rest : List ℕ)
-      → kind-word k ++ (hexes (take (o + 3 + n - (o + 3)) (drop (o + 3) t)) ++ rest) ≡ escape 0 (said (valueFrom t o)) ++ rest
-  value-number l rest =
+  pub number-shown : 2 < k → hexes (take (o + 3 + n - (o + 3)) (drop (o + 3) t)) ++ rest ≡ escape 0 (shown (valueFrom t o)) ++ rest
+  number-shown l =
       let z : leb (getD t o 0) 2 ≡ false = lt-leb (getD t o 0) 2 (omega arith) in
-      rw (part-is, a, said-number (valueFrom t o) z) (sym (append-assoc (kind-word (getD t o 0)) (hexes (valueFrom t o .bytes)) rest))
+      rw (part-is, shown-number (valueFrom t o) z)
 
 module _ (t : List ℕ) (o n : ℕ) (h : Here t o) (b : n ≡ u16At t (o + 1)) where
   part-short : length (take (o + 3 + n - (o + 3)) (drop (o + 3) t)) ≤ 255
@@ -94,11 +100,11 @@ module _ (t : List ℕ) (o n : ℕ) (h : Here t o) (b : n ≡ u16At t (o + 1)) w
       let e : o + 3 + n - (o + 3) ≡ n = omega arith in
       rw e (omega (arith, length-take n (drop (o + 3) t), h .short))
 
-  pub value-short-text : 16 + 6 * length (take (o + 3 + n - (o + 3)) (drop (o + 3) t)) ≤ 1546
-  value-short-text = let l = part-short in omega arith
+  pub text-short : 6 * length (take (o + 3 + n - (o + 3)) (drop (o + 3) t)) ≤ 1530
+  text-short = let l = part-short in omega arith
 
-  pub value-short-number : 16 + 2 * length (take (o + 3 + n - (o + 3)) (drop (o + 3) t)) ≤ 1546
-  value-short-number = let l = part-short in omega arith
+  pub number-short : 2 * length (take (o + 3 + n - (o + 3)) (drop (o + 3) t)) ≤ 1530
+  number-short = let l = part-short in omega arith
 
 -- ---- short names
 

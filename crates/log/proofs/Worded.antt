@@ -12,11 +12,11 @@ use Rattle.rules.specs.Visit.{look}
 use Rattle.rules.specs.Record.{Rec, Span}
 use Rattle.rules.proofs.Look.{look-so}
 use Rattle.codes.proofs.Pieced.{piece, Piece, pieces, letters, begins-from}
-use Rattle.json.specs.Page.{Wrote}
+use Rattle.page.specs.Page.{Wrote}
 use Rattle.json.specs.Escape.{escape}
 use Rattle.json.specs.Text.{nil, text, items}
 use Rattle.json.proofs.Plain.{all-plain, plain-same}
-use Rattle.json.proofs.Pages.{wrote-most}
+use Rattle.page.proofs.Pages.{wrote-most}
 use Rattle.log.specs.Words.{phrases, kinds, seconds, phrase, kind-word}
 use Rattle.log.specs.Log.{other, related}
 use Rattle.log.specs.Pieces.{related-place, second-related, all-related}

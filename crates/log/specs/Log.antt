@@ -2,18 +2,20 @@
 use Prim.Native.Nat.{ℕ, suc, _+_, _-_}
 use Prim.Native.String.{String, [] as end, _∷_ as _then_}
 use mathlib.Core.Bool.{Bool, true, false, cond}
-use mathlib.Core.List.{List, [], _∷_, _++_}
+use mathlib.Core.List.{List, [], _∷_}
 use lib.Dec.{ltb}
 use lib.ListN.{take}
-use Rattle.tree.specs.Table.{tableOf, at}
+use mathlib.Core.Option.{Option}
+use Rattle.tree.specs.Values.{Value}
+use Rattle.tree.specs.Table.{tableOf}
 use Rattle.rules.specs.Visit.{look}
 use Rattle.rules.specs.Record.{Rec, Span, span-of}
 use Rattle.rules.specs.Joined.{tally-of}
 use Rattle.base.specs.Ascii.{ascii}
 use Rattle.rules.specs.Codes.{disabled, short-name}
-use Rattle.json.specs.Digits.{decimal}
+use Rattle.page.specs.Digits.{decimal}
 use Rattle.json.specs.Text.{Json, string, number, array, rows, object, Items, nil, item, done, _⨾_, Member, _⇒_, text}
-use Rattle.log.specs.Words.{seconds, thirds, phrase, said}
+use Rattle.log.specs.Words.{seconds, thirds, value-of, message-text, arguments}
 
 infix 5 _is_
 -- a member that is an ASCII text
@@ -30,6 +32,10 @@ one x = array (item x nil)
 abbrev pub level : ℕ → List ℕ
 level c = cond (disabled c) (ascii "none") (ascii "warning")
 
+-- SARIF 3.27.9 and 3.27.10: a level other than none is that of a result whose kind is fail
+abbrev pub result-kind : ℕ → List ℕ
+result-kind c = cond (disabled c) (ascii "informational") (ascii "fail")
+
 -- "its byte offset and length"
 abbrev pub region : Span → Json
 region s = object ("byteOffset" ⇒ number (s .begin) ⨾ "byteLength" ⇒ number (s .end - s .begin) ⨾ done)
@@ -44,6 +50,14 @@ place s =
 
 abbrev pub message : List ℕ → Member
 message s = "message" ⇒ only ("text" ⇒ string s)
+
+abbrev pub strings : List (List ℕ) → Items
+strings [] = nil
+strings (s ∷ ss) = item (string s) (strings ss)
+
+-- "names and keys as text, numbers in hex of their value bytes": what is said of a code and its value
+abbrev pub message-of : ℕ → Option Value → Member
+message-of c o = "message" ⇒ object ("text" ⇒ string (message-text c o) ⨾ "arguments" ⇒ array (strings (arguments o)) ⨾ done)
 
 -- a related location, where there are words for it
 unfoldable pub other : String → Span → Items → Items
@@ -68,8 +82,9 @@ result t tally r =
     ("ruleId" ⇒ string (decimal (r .code))
     ⨾ "ruleIndex" ⇒ number (index-of tally (r .code))
     ⨾ "locations" ⇒ one (only (place (span-of (r .spot))))
+    ⨾ "kind" ⇒ string (result-kind (r .code))
     ⨾ "level" ⇒ string (level (r .code))
-    ⨾ message (phrase (r .code) ++ said (at (tableOf t) (r .spot .value)))
+    ⨾ message-of (r .code) (value-of (tableOf t) (r .spot .value))
     ⨾ "relatedLocations" ⇒ array (related r)
     ⨾ done)
 

@@ -3,8 +3,11 @@ use Prim.Native.Nat.{ℕ}
 use Prim.Native.String.{String}
 use mathlib.Core.Bool.{cond}
 use mathlib.Core.List.{List, [], _∷_, _++_}
-use lib.Dec.{leb}
+use mathlib.Core.Option.{Option, none, some}
+use lib.Dec.{leb, ltb}
+use lib.ListN.{length}
 use Rattle.tree.specs.Values.{Value}
+use Rattle.tree.specs.Table.{at}
 use Rattle.rules.specs.Visit.{look}
 use Rattle.base.specs.Ascii.{ascii}
 use Rattle.json.specs.Escape.{hexes}
@@ -43,5 +46,18 @@ kind-word k = ascii (look k kinds "")
 unfoldable pub shown : Value → List ℕ
 shown v = cond (leb (v .kind) 2) (v .bytes) (hexes (v .bytes))
 
-unfoldable pub said : Value → List ℕ
-said v = kind-word (v .kind) ++ shown v
+-- the value of a number, where the table has one
+abbrev pub value-of : List Value → ℕ → Option Value
+value-of vs v = cond (ltb v (length vs)) (some (at vs v)) none
+
+-- SARIF 3.11.5: a message's text with a placeholder for its value, and the value as the argument that stands for it
+unfoldable pub after-phrase : Option Value → List ℕ
+after-phrase none = []
+after-phrase (some v) = kind-word (v .kind) ++ ascii "{0}"
+
+abbrev pub message-text : ℕ → Option Value → List ℕ
+message-text c o = phrase c ++ after-phrase o
+
+unfoldable pub arguments : Option Value → List (List ℕ)
+arguments none = []
+arguments (some v) = shown v ∷ []

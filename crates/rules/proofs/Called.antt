@@ -1,5 +1,5 @@
 -- The three demands, read of what a public call that runs names answers and leaves: of any list, and of names' own call.
-use Prim.Native.Nat.{ℕ, _+_, _*_, _≤_, _<_}
+use Prim.Native.Nat.{ℕ, zero, suc, _+_, _*_, _≤_, _<_}
 use native.Mathlib.Omega.{arith}
 use mathlib.Core.Path.{_≡_, refl, sym, ap, _∙_}
 use mathlib.Core.Bool.{Bool}
@@ -32,10 +32,14 @@ use Rattle.rules.specs.declared.Refusal.the-variants.{Tree, WorkRoom, An
 use Rattle.rules.specs.declared.Outcome.the-variants.{Listed}
 use Rattle.rules.specs.declared.Answer.{Answer}
 use Rattle.rules.proofs.Words.{length-words}
-use Rattle.rules.proofs.Answered.{short-or-not, unfit, fit, work-short, work-enough, room-short, room-enough, all-passed, refused as refused-as, listed, filled}
+use Rattle.rules.proofs.Answered.{short-or-not, unfit, fit, work-short, work-enough, room-short, room-enough, all-passed, room-passed, refused as refused-as, listed, filled}
 use Rattle.rules.proofs.Whole.{file-demand3}
 
 -- ---- records read back
+
+pub length-records : (n : ℕ) (o : List ℕ) → length (records-in n o) ≡ n
+length-records zero o = refl
+length-records (suc n) o = ap suc (length-records n (drop width o))
 
 pub read-back : (rs : List Rec) (o : List ℕ) → records-in (length rs) (all-words rs ++ o) ≡ rs
 read-back [] o = refl
@@ -138,6 +142,16 @@ module _ (rs : List Rec) (t work room tally : List ℕ) (a : Answer) (room′ wo
       go (Unfit why) e =
           let l = refuses (Tree why) (tree-numbered why) (unfit _ e) in
           let z : _≡_ {A = ℕ} 0 1 = cc (l .outcome, i) in absurd (omega arith)
+
+  -- ... which has room
+  pub room-where-listed : (n : ℕ) → a .outcome ≡ Listed n → width * n ≤ length room′
+  room-where-listed n i = go warned-or-refused
+    where
+      go : Warned-or-refused rs t tally work room a room′ work′ → width * n ≤ length room′
+      go (warned l) =
+          let m : n ≡ length rs = cc (l .outcome, i) in
+          omega (arith, room-passed _ _ (length rs) (length room) (l .none-given), l .as-long)
+      go (refused why l) = let z : _≡_ {A = ℕ} 0 1 = cc (l .outcome, i) in absurd (omega arith)
 
 -- ---- demand 3
 

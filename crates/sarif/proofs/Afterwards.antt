@@ -202,8 +202,8 @@ module _ (mode : Mode) (t work room output : List ℕ) (a : Answer) (work′ roo
       (record { answer = b; work = work″; room = room″; output = output″ })
   sarif-one b work″ room″ output″ other = one-outcome gives other
 
-  -- with room for k records, 1,617 + 2,188 k bytes are never too few: 4,482,641 for 2,048 records
-  pub output-enough : (k : ℕ) → length room < width * (k + 1) → 1617 + 2188 * k ≤ length output → Each (λ w. w < 4294967296) (all-words (lint-list mode t))
+  -- with room for k records, 1,617 + 2,222 k bytes are never too few: 4,552,273 for 2,048 records
+  pub output-enough : (k : ℕ) → length room < width * (k + 1) → 1617 + 2222 * k ≤ length output → Each (λ w. w < 4294967296) (all-words (lint-list mode t))
       → (n : ℕ) → a .outcome ≡ Refused (OtherRoom n) → ⊥
   output-enough k h l u n i =
       let d = short-of (lint-list mode t) t work room output a work′ room′ output′ gives n i in

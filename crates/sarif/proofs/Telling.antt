@@ -25,23 +25,20 @@ use Rattle.rules.specs.declared.Outcome.the-variants.{Listed as Lint-listed, Re
 use Rattle.rules.proofs.Words.{length-words}
 use Rattle.rules.proofs.Whole.{file-lint-few}
 use Rattle.rules.proofs.Answered.{short-or-not, unfit, fit, work-short, work-enough, room-short, room-enough, other-short, other-enough, all-passed, refused as lint-refused-as, listed, filled, work-unfit, work-lacking, work-listed}
-use Rattle.rules.proofs.Called.{valid-where-listed, filled-long}
+use Rattle.rules.proofs.Called.{valid-where-listed, room-where-listed, length-records}
 use Rattle.lint.proofs.Demands as demands
 use Rattle.answer.proofs.Whole.{no-front}
-use Rattle.json.specs.Page.{Page, page, writes, Wrote}
+use Rattle.page.specs.Page.{Page, page, writes, Wrote}
 use Rattle.json.specs.Text.{text}
-use Rattle.json.proofs.Pages.{writes-length, written, counted}
+use Rattle.page.proofs.Pages.{writes-length, written, counted}
 use Rattle.log.specs.Log.{sarif-log, log}
 use Rattle.sarif.specs.Calls.{checks, answer-by, output-by, Done, sarif-of, sarif-call}
 use Rattle.sarif.specs.Telling.{Listed, why-of, Tells}
 use Rattle.sarif.specs.declared.Outcome.{Outcome}
 use Rattle.sarif.specs.declared.Outcome.the-variants.{Logged, Refused}
 use Rattle.sarif.specs.declared.Answer.{Answer}
-use Rattle.log.proofs.Valued.{file-small, take-front}
-
-length-records : (n : ℕ) (o : List ℕ) → length (records-in n o) ≡ n
-length-records zero o = refl
-length-records (suc n) o = ap suc (length-records n (drop width o))
+use Rattle.log.proofs.Valued.{take-front}
+use Rattle.log.proofs.Listed.{listed-small}
 
 answer-is : (a : Answer) {o : Outcome} {y : List ℕ} → a .outcome ≡ o → a .tally ≡ y → a ≡ record { outcome = o; tally = y }
 answer-is a p q = rw (p, q)
@@ -185,11 +182,10 @@ module _ (mode : Mode) (t work list : List ℕ) (ample : length list ≡ width *
         let k : width * n ≡ length (all-words whole) = omega arith in
         let s : take (width * n) list′ ≡ all-words whole
         = ap₂ (λ (x : ℕ) (y : List ℕ). take x y) k stood ∙ take-front (all-words whole) (drop (width * length whole) list) in
-        let r : length list′ ≡ length list = ap length stood ∙ filled-long whole list room-for-all in
         record {
-          small = file-small t (valid .0) (valid .1);
+          small = listed-small whole t work list no-tally a list′ work′ gives n i;
           counts = demands.lint-counts mode t work list a list′ work′ gives n i;
-          enough = omega (arith, r, few, ample, m);
+          enough = room-where-listed whole t work list no-tally a list′ work′ gives n i;
           stands = s ∙ sym (ap all-words got);
           most = omega (arith, few, m);
         }

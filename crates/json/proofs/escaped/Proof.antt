@@ -6,7 +6,7 @@ use mathlib.Core.List.{_++_}
 use lib.ListN.{length, drop, drop-of-length-le}
 use borrow.Author.Needs.{needs}
 use Rattle.json.specs.Escape.{escape, first}
-use Rattle.json.proofs.Going.{Going, going-first, going-next, going-last}
+use Rattle.page.proofs.Going.{Going, going-first, going-next, going-last}
 use Rattle.json.proofs.Pieces.{escape-next, escape-end}
 use Rattle.json.proofs.escaped.Statement.{statement}
 use Rattle.json.proofs.escaped.Tie as tie

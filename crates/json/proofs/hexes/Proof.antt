@@ -5,7 +5,7 @@ use mathlib.Core.Path.{_≡_, refl}
 use lib.ListN.{length, getD, drop, drop-of-length-le}
 use borrow.Author.Needs.{needs}
 use Rattle.json.specs.Escape.{hex, hexes}
-use Rattle.json.proofs.Going.{Going, going-first, going-next, going-last}
+use Rattle.page.proofs.Going.{Going, going-first, going-next, going-last}
 use Rattle.json.proofs.Pieces.{hexes-next, hexes-end}
 use Rattle.json.proofs.hexes.Statement.{statement}
 use Rattle.json.proofs.hexes.Tie as tie

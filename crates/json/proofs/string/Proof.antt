@@ -1,5 +1,5 @@
 -- The quotation marks and what stands between them. Assumes nothing.
-use Rattle.json.proofs.Pages.{then, retold}
+use Rattle.page.proofs.Pages.{then, retold}
 use Rattle.json.specs.Text.{quoted}
 use lib.ListN.{length}
 use mathlib.Core.Path.{refl}

@@ -1,7 +1,7 @@
 use Rattle.log.proofs.Plainly.{not-warned, warned}
 use Rattle.rules.specs.Codes.{disabled}
 use Rattle.log.specs.Log.{level}
-use Rattle.json.proofs.Pages.{retold}
+use Rattle.page.proofs.Pages.{retold}
 use mathlib.Core.List.{_++_}
 use mathlib.Core.Path.{sym, _∙_}
 use native.Mathlib.Omega.{arith}

@@ -1,5 +1,5 @@
 use Rattle.json.specs.Text.{comma}
-use Rattle.json.proofs.Pages.{retold}
+use Rattle.page.proofs.Pages.{retold}
 use mathlib.Core.List.{_∷_}
 use native.Mathlib.Omega.{arith}
 use borrow.Author.Needs.{needs}

@@ -1,6 +1,6 @@
 use Rattle.log.proofs.Shapes.{place-text}
 use Rattle.log.specs.Pieces.{span, open-place}
-use Rattle.json.proofs.Pages.{then, retold}
+use Rattle.page.proofs.Pages.{then, retold}
 use native.Mathlib.Omega.{arith}
 use borrow.Author.Needs.{needs}
 use Rattle.log.proofs.place.Statement.{statement}

@@ -3,7 +3,7 @@ use Rattle.log.specs.Pieces.{all-related}
 use Rattle.answer.specs.Note.{recFrom}
 use Rattle.json.specs.Utf8.{front}
 use Rattle.json.specs.Escape.{escape, unit}
-use Rattle.json.proofs.Pages.{then, retold}
+use Rattle.page.proofs.Pages.{then, retold}
 use mathlib.Core.Path.{refl}
 use native.Mathlib.Omega.{arith}
 use borrow.Author.Needs.{needs}

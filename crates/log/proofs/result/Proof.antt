@@ -2,7 +2,7 @@ use Rattle.log.proofs.Shapes.{result-text}
 use Rattle.log.specs.Log.{result}
 use Rattle.answer.specs.Note.{recFrom}
 use Rattle.json.specs.Text.{text}
-use Rattle.json.proofs.Pages.{then, retold}
+use Rattle.page.proofs.Pages.{then, retold}
 use native.Mathlib.Omega.{arith}
 use borrow.Author.Needs.{needs}
 use Rattle.log.proofs.result.Statement.{statement}

@@ -3,7 +3,7 @@ use Rattle.rules.specs.Afterwards.{record-in}
 use lib.ListN.{drop}
 use lib.Dec.{eqb}
 use Rattle.json.specs.Text.{text, comma}
-use Rattle.json.proofs.Pages.{then, retold}
+use Rattle.page.proofs.Pages.{then, retold}
 use Prim.Native.Nat.{_*_}
 use mathlib.Core.List.{_∷_}
 use native.Mathlib.Omega.{arith}

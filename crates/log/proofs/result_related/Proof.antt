@@ -1,7 +1,7 @@
 use Rattle.log.proofs.Shapes.{result-related-text}
 use Rattle.answer.specs.Note.{recFrom}
 use Rattle.log.specs.Pieces.{result-related}
-use Rattle.json.proofs.Pages.{then, retold}
+use Rattle.page.proofs.Pages.{then, retold}
 use native.Mathlib.Omega.{arith}
 use borrow.Author.Needs.{needs}
 use Rattle.log.proofs.result_related.Statement.{statement}

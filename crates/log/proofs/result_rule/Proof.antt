@@ -1,6 +1,6 @@
 use Rattle.log.proofs.Shapes.{result-rule-text}
 use Rattle.log.specs.Pieces.{result-rule}
-use Rattle.json.proofs.Pages.{then, retold}
+use Rattle.page.proofs.Pages.{then, retold}
 use native.Mathlib.Omega.{arith}
 use borrow.Author.Needs.{needs}
 use Rattle.log.proofs.result_rule.Statement.{statement}

@@ -1,7 +1,7 @@
 use Rattle.log.proofs.Shapes.{rule-text}
 use Rattle.log.specs.Log.{rule}
 use Rattle.json.specs.Text.{text}
-use Rattle.json.proofs.Pages.{then, retold}
+use Rattle.page.proofs.Pages.{then, retold}
 use native.Mathlib.Omega.{arith}
 use borrow.Author.Needs.{needs}
 use Rattle.log.proofs.rule.Statement.{statement}

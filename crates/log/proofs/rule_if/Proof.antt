@@ -1,6 +1,6 @@
 use Rattle.log.proofs.Turns.{rule-absent, rule-present}
 use Rattle.log.specs.Pieces.{rule-line}
-use Rattle.json.proofs.Pages.{then, retold, nothing-wrote}
+use Rattle.page.proofs.Pages.{then, retold, nothing-wrote}
 use native.Mathlib.Omega.{arith}
 use borrow.Author.Needs.{needs}
 use Rattle.log.proofs.rule_if.Statement.{statement}

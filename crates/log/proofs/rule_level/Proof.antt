@@ -1,7 +1,7 @@
 use Rattle.log.proofs.Shapes.{rule-level-text}
 use Rattle.json.specs.Text.{string, _⇒_, member}
 use Rattle.log.specs.Log.{only, level}
-use Rattle.json.proofs.Pages.{then, retold}
+use Rattle.page.proofs.Pages.{then, retold}
 use mathlib.Core.List.{_∷_}
 use native.Mathlib.Omega.{arith}
 use borrow.Author.Needs.{needs}

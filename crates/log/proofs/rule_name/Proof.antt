@@ -3,7 +3,7 @@ use Rattle.log.proofs.Valued.{named-fits, named-long, named-bytes}
 use Rattle.rules.specs.Codes.{short-name}
 use Rattle.json.specs.Text.{quoted}
 use lib.ListN.{length}
-use Rattle.json.proofs.Pages.{retold}
+use Rattle.page.proofs.Pages.{retold}
 use Prim.Native.Nat.{ℕ}
 use mathlib.Core.List.{List}
 use mathlib.Core.Path.{ap}

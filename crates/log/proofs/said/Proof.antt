@@ -1,13 +1,12 @@
 use mathlib.Core.Path.{subst, sym}
-use Rattle.log.specs.Pieces.{Here}
-use Rattle.json.specs.Escape.{hexes, escape}
-use Rattle.log.specs.Words.{said, kind-word, shown}
-use Rattle.tree.proofs.TableLaws.{at-table, at-past}
-use Rattle.tree.specs.Table.{tableOf, at}
+use Rattle.log.proofs.Shapes.{no-value-text}
+use Rattle.log.proofs.Valued.{value-in, value-past}
+use Rattle.log.specs.Pieces.{message-end, Here}
+use Rattle.log.specs.Words.{value-of}
+use Rattle.tree.specs.Table.{tableOf}
 use Rattle.tree.specs.Bytes.{valueCount}
-use Rattle.json.proofs.Pages.{retold, nothing-wrote}
+use Rattle.page.proofs.Pages.{retold}
 use Prim.Native.Nat.{ℕ, _<_}
-use mathlib.Core.List.{_++_}
 use native.Mathlib.Omega.{arith}
 use borrow.Author.Needs.{needs}
 use Rattle.log.proofs.said.Statement.{statement}
@@ -16,13 +15,21 @@ use Rattle.log.proofs.said.Tie as tie
 value-count-requires : tie.Need-value-count-requires
 value-count-requires c κs = search needs
 
+slice-aggregate-raw : tie.Need-slice-aggregate-raw
+slice-aggregate-raw c = search needs
+
+raw-requires : tie.Need-raw-requires
+raw-requires c κs = search needs
+
+same-length : tie.Need-same-length
+same-length c = search needs
+
 returns : tie.Need-returns
-unfolding said kind-word shown hexes escape
 returns c =
-    let t = c .before .before .before .before .args .t .now in
-    let v = c .before .before .before .before .args .v in
-    let e = at-past t v (omega (arith, c .before .value-count .ensures .0, c .if1 .taken)) in
-    retold 1546 (λ rest. escape 0 (said (at (tableOf t) v)) ++ rest) (nothing-wrote (c .before .before .before .before .args .out .now) (c .before .before .before .before .args .n)) (omega arith) (λ rest. rw e)
+    let t = c .before .before .before .before .before .before .before .before .before .args .t .now in
+    let v = c .before .before .before .before .before .before .before .before .before .args .v in
+    let e = value-past t v (omega (arith, c .before .before .before .before .before .before .value-count .ensures .0, c .before .before .before .before .before .if1 .taken)) in
+    retold 1568 (message-end (value-of (tableOf t) v)) (c .before .before .raw .ensures) (omega arith) (λ rest. rw e (no-value-text rest))
 
 mul-value : tie.Need-mul-value
 mul-value c = search needs
@@ -39,8 +46,8 @@ value-requires c κs =
     let h : v < valueCount t = omega (arith, c .before .before .before .value-count .ensures .0, c .before .before .if1 .left) in
     subst (λ (o : ℕ). Here t o) (sym (starts .at-each v (omega (arith, small .few)))) (small .here v h)
 
-same-length : tie.Need-same-length
-same-length c = search needs
+same-length-2 : tie.Need-same-length-2
+same-length-2 c = search needs
 
 returns-2 : tie.Need-returns-2
 returns-2 c =
@@ -49,16 +56,19 @@ returns-2 c =
     let small = c .before .before .before .before .before .before .before .before .before .pre .0 in
     let starts = c .before .before .before .before .before .before .before .before .before .pre .1 in
     let h : v < valueCount t = omega (arith, c .before .before .before .before .before .before .value-count .ensures .0, c .before .before .before .before .before .if1 .left) in
-    retold 1546 (λ rest. escape 0 (said (at (tableOf t) v)) ++ rest) (c .before .before .value .ensures) (omega arith) (λ rest. rw (starts .at-each v (omega (arith, small .few)), at-table t v h))
+    retold 1568 (message-end (value-of (tableOf t) v)) (c .before .before .value .ensures) (omega arith) (λ rest. rw (starts .at-each v (omega (arith, small .few)), value-in t v h))
 
 pub said-spec : {M : Type 1} → statement M
 said-spec =
     tie.close
     (tie.spec
     value-count-requires
+    slice-aggregate-raw
+    raw-requires
+    same-length
     returns
     mul-value
     element-copy-out-value
     value-requires
-    same-length
+    same-length-2
     returns-2)

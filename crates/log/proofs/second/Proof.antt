@@ -1,6 +1,6 @@
 use Rattle.log.proofs.Worded.{second-piece, second-past, second-none, second-some, second-plain, second-short}
 use Rattle.log.specs.Pieces.{span, second-related}
-use Rattle.json.proofs.Pages.{retold, nothing-wrote}
+use Rattle.page.proofs.Pages.{retold, nothing-wrote}
 use Prim.Native.Nat.{_≤_, _<_}
 use native.Mathlib.Omega.{arith}
 use borrow.Author.Needs.{needs}

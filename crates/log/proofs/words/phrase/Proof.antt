@@ -2,7 +2,7 @@ use Rattle.log.proofs.Plainly.{no-phrase}
 use Rattle.codes.proofs.Pieced.{letters, begins-from}
 use Rattle.log.proofs.Worded.{phrase-piece, phrase-short, piece-wrote}
 use Rattle.log.specs.Words.{phrases, phrase}
-use Rattle.json.proofs.Pages.{retold, nothing-wrote}
+use Rattle.page.proofs.Pages.{retold, nothing-wrote}
 use Prim.Native.Nat.{_≤_, _<_}
 use mathlib.Core.List.{_∷_, _++_}
 use native.Mathlib.Omega.{arith}

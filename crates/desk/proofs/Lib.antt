@@ -1,0 +1,2 @@
+-- What the joined call's promise gives the log.
+pub mod Listing

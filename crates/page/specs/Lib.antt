@@ -1,0 +1,3 @@
+-- What the contracts of page cite.
+pub mod Digits
+pub mod Page

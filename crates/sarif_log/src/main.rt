@@ -1,6 +1,0 @@
-// The list of the tree on standard input as a SARIF log on standard output: ordinary keys, room for 2,048 records as in the listing.
-use tree::Mode;
-
-fn main() {
-    print::log_input(Mode::Ordinary);
-}

@@ -1,0 +1,28 @@
+-- Texts computed from the definitions: 01's "Output whole", a refusal, a list of nothing with its counts. Assumes nothing.
+use mathlib.Core.Path.{_≡_, refl}
+use mathlib.Core.Bool.{true}
+use mathlib.Core.List.{[]}
+use mathlib.Core.Option.{none}
+use Rattle.base.specs.Ascii.{ascii}
+use Rattle.tree.specs.Search.{first}
+use Rattle.tree.specs.Bytes.{u16At, u32At, nodeCount, valueCount, globalCount, kindAt, roleAt, sizeAt, beginAt, endAt, valueAt, lastAt}
+use Rattle.tree.specs.Forest.{spotAt, headAt, forestIn, forestOf, treeOf}
+use Rattle.tree.specs.Values.{offset}
+use Rattle.tree.specs.Written.{file}
+use Rattle.tree.specs.declared.Mode.the-variants.{Ordinary}
+use Rattle.rules.specs.Names.{names-list}
+use Rattle.rules.specs.Flow.{flow-list}
+use Rattle.rules.specs.Incompatible.{incompatible-list}
+use Rattle.rules.specs.Dubious.{dubious-list}
+use Rattle.rules.specs.Joined.{lint-list}
+use Rattle.rules.specs.Examples.{one-literal, value-one}
+use Rattle.rules.specs.declared.Refusal.the-variants.{AnswerRoom}
+use Rattle.page.specs.Digits.{digits, decimal}
+use Rattle.text.specs.Text.{line, records, listing, refused, counts, told}
+
+pub examples :
+    (listing (lint-list Ordinary (file one-literal value-one)) ≡ ascii "13 0 1 65535 0 0 0 0\ntotal 1\n")
+    × (refused (AnswerRoom 2045) ≡ ascii "refused 11 2045\n")
+    × (told true none [] ≡ ascii "total 0\ntally 0 0 0 0 0 0 0 0 0 0 0 0 0 0 0 0 0\n")
+unfolding first u16At u32At nodeCount valueCount globalCount kindAt roleAt sizeAt beginAt endAt valueAt lastAt spotAt headAt forestIn forestOf treeOf offset names-list flow-list incompatible-list dubious-list lint-list digits decimal line records listing refused counts told
+examples = (refl, refl, refl)

@@ -1,0 +1,185 @@
+#!/usr/bin/env python3
+"""usage: tools/desk-cases.py [--check]
+
+Writes crates/desk/stdin and crates/desk/stdout, on which the gate runs the program desk: requests, and what must be answered.
+With --check it writes nothing, and says whether they are as it would write them. Exit status: 0, 1 they aren't, 2 wrong use.
+
+No answer comes from the program itself: lists are the Rust's (compare/recorded, examples/listings.txt) or, with strict keys,
+those of document 01's rules as compare/ has them; logs are written by examples/log.py from these lists; the rest is
+counted here.
+"""
+import pathlib
+import sys
+
+ROOT = pathlib.Path(__file__).resolve().parent.parent
+sys.dont_write_bytecode = True
+sys.path.insert(0, str(ROOT / "examples"))
+import asking
+import log
+from asking import ACCEPTED, LOG, LONGEST, STRICT, TALLY, TWO, request
+from export import Node, packed
+
+DESK = ROOT / "crates" / "desk"
+SCRIPTS = ROOT / "examples" / "scripts"
+RECORDED = ROOT / "compare" / "recorded"
+WORK, RECORD, CODES = 32768, 8, 17
+# More than the program has of any room, which is taken as all that it has.
+AMPLE = 2**32 - 1
+
+
+def refused(number, place):
+    return f"refused {number} {place}\n".encode()
+
+
+def total(listing):
+    """How many records a listing has."""
+    return len(log.records(listing.decode()))
+
+
+def tally(listing):
+    codes = [numbers[0] for numbers in log.records(listing.decode())]
+    return " ".join(["tally", *(str(codes.count(code)) for code in range(1, CODES + 1))]).encode() + b"\n"
+
+
+# Each case is a request and its answer.
+
+
+def samples(listings):
+    """The sample trees, ordinary keys and strict: among them 01's starred examples."""
+    for (name, strict), listing in listings.items():
+        yield request(STRICT if strict else 0, tree_of(name)), listing
+
+
+def tree_of(name):
+    return log.sample() if name == "log.py" else (SCRIPTS / name).read_bytes()
+
+
+def recorded():
+    for tree, listing in zip(asking.files(RECORDED / "recorded.bin"), asking.lists(RECORDED / "recorded.list")):
+        yield request(0, tree), listing
+
+
+def logs(listings):
+    """The log of log.py's tree, and the logs of a tree without records and of one that is refused."""
+    for strict in (False, True):
+        yield request(LOG | strict * STRICT, log.sample()), logged(log.sample(), listings["log.py", strict])
+    empty = tree_of("known-empty.slt")
+    yield request(LOG, empty), logged(empty, listings["known-empty.slt", False])
+    yield request(LOG, b"SLT"), refused(1, 0)
+
+
+def logged(tree, listing):
+    return log.log(tree, log.records(listing.decode()))
+
+
+def rooms(listings):
+    """Each room one short and exactly enough, and all larger than the program's own."""
+    tree, listing = log.sample(), listings["log.py", False]
+    strict, count = listings["log.py", True], total(listing)
+    text, words = logged(tree, listing), RECORD * total(listing)
+    for choices, sizes, answer in (
+        (0, (WORK - 1, AMPLE, AMPLE, AMPLE), refused(10, 0)),
+        (0, (WORK, words - 1, AMPLE, AMPLE), refused(11, count)),
+        (0, (WORK, words, 0, 0), listing),
+        (0, (AMPLE, AMPLE, AMPLE, AMPLE), listing),
+        (STRICT, (WORK, words, 0, 0), refused(11, total(strict))),
+        (STRICT, (WORK, RECORD * total(strict), 0, 0), strict),
+        (LOG, (WORK - 1, 0, 0, 0), refused(10, 0)),
+        (LOG, (WORK, words - 1, len(text) - 1, 0), refused(11, count)),
+        (LOG, (WORK, words, len(text) - 1, AMPLE), refused(12, len(text))),
+        (LOG, (WORK, words, len(text), 0), text),
+        (LOG, (AMPLE, AMPLE, AMPLE, AMPLE), text),
+        (TALLY, (WORK, words, 0, 0), listing + tally(listing)),
+        (TALLY, (WORK, words - 1, 0, 0), refused(11, count)),
+    ):
+        yield request(choices, tree, rooms=sizes), answer
+    yield request(0, b"", rooms=(1, 0, 0, 0)), refused(1, 0)
+    yield request(0, tree_of("known-empty.slt"), rooms=(WORK, 0, 0, 0)), b"total 0\n"
+
+
+def tallies(listings):
+    for (name, strict), listing in listings.items():
+        if name in ("log.py", "every-kind.slt", "known-empty.slt"):
+            yield request(TALLY | strict * STRICT, tree_of(name)), listing + tally(listing)
+    yield request(TALLY, bytes(11)), refused(1, 0)
+
+
+def strange(listings):
+    """Choices that there aren't, with all that such a request has, and after each a good request: nothing is lost."""
+    tree, listing = tree_of("no-effect.slt"), listings["no-effect.slt", False]
+    second = bytes(range(256))
+    asked = [request(1 << bit, tree, *([second] if 1 << bit in (ACCEPTED, TWO) else [])) for bit in (*range(2, 14), 16, 31)]
+    asked += [
+        request(LOG | TALLY, tree),
+        request(ACCEPTED, tree, b""),
+        request(ACCEPTED | TWO, tree, second),
+        request(1 << 2, tree, rooms=(WORK, 0, 0, 0)),
+        request(TWO, b"", second, rooms=(0, 0, 0, 0)),
+    ]
+    for wrong in asked:
+        yield wrong, b"no such request\n"
+        yield request(0, tree), listing
+
+
+def longest():
+    """The longest valid tree, its list and its 17th count: an identifier alone, which is a global, among passes."""
+    names = [b"%0255d" % i for i in range(512)]
+    alone = Node(5, (1, 4), [Node(20, (2, 3), value=(0, names[-1])).in_role(4)])
+    tree = packed(Node(8, (0, 5), [Node(3, (0, 0)) for _ in range(1021)] + [alone]), names)
+    if len(tree) != LONGEST:
+        raise ValueError(f"a tree of {len(tree)} bytes")
+    return tree, b"17 2 3 511 0 0 0 0\ntotal 1\n"
+
+
+def lengths(listings):
+    """The longest tree, one byte more, and none, with good requests between them."""
+    tree, listing = longest()
+    good = request(0, tree_of("rate.slt")), listings["rate.slt", False]
+    yield request(0, tree), listing
+    yield request(0, tree + b"\0"), b"too long\n"
+    yield good
+    yield request(0, b""), refused(1, 0)
+    yield good
+
+
+def cut_short():
+    """Last, since the program ends there."""
+    return request(0, bytes(47))[:-1], b"cut short\n"
+
+
+def cases():
+    listings = asking.listings()
+    for part in (samples, logs, rooms, tallies, strange, lengths):
+        yield from part(listings)
+    yield from recorded()
+    yield cut_short()
+
+
+def made():
+    """The two files and what goes into them."""
+    every = list(cases())
+    stdin, stdout = b"".join(asked for asked, _ in every), b"".join(answer + b"--\n" for _, answer in every)
+    return len(every), {DESK / "stdin": stdin, DESK / "stdout": stdout}
+
+
+def main(words):
+    if words in (["-h"], ["--help"]):
+        print(__doc__.strip())
+        return 0
+    if words not in ([], ["--check"]):
+        print("tools/desk-cases.py: --help has the use", file=sys.stderr)
+        return 2
+    count, files = made()
+    differ = [path for path, data in files.items() if not path.exists() or path.read_bytes() != data]
+    for path in differ:
+        if not words:
+            path.parent.mkdir(exist_ok=True)
+            path.write_bytes(files[path])
+        print(f"tools/desk-cases.py: {path.relative_to(ROOT)} {'is not as it should be' if words else 'written'}")
+    sizes = " and ".join(f"{len(data):,}" for data in files.values())
+    print(f"tools/desk-cases.py: {count} requests, {sizes} bytes")
+    return 1 if words and differ else 0
+
+
+if __name__ == "__main__":
+    sys.exit(main(sys.argv[1:]))
