@@ -138,6 +138,7 @@ def lengths(listings):
     yield request(0, tree), listing
     yield request(0, tree + b"\0"), b"too long\n"
     yield good
+    yield request(1 << 2, tree + b"\0"), b"no such request\n"
     yield request(0, b""), refused(1, 0)
     yield good
 

@@ -59,6 +59,8 @@ def shown(value):
         return str(int.from_bytes(data, "big"))
     if kind > INTEGER:
         return repr(struct.unpack("<d", data)[0])
+    if kind == STRING:
+        data = data.replace(b"\\", b"\\\\").replace(b'"', b'\\"')
     text = printable(data.decode("utf-8", "backslashreplace"))
     return f"`{text}`" if kind == NAME else f'"{text}"'
 

@@ -1,10 +1,11 @@
-/* lengths: tries what include/yudronkha.h says of lengths, on one tree, with words behind each room that must stay.
- * Prints a line for each call that answers otherwise. Exit status: 0 none does, 1 one does. */
+/* lengths: tries what include/yudronkha.h says of lengths, on one tree and a few codes, with words behind each room that must stay.
+ * Prints a line for each call that answers otherwise. Exit status: 0 none does, 1 one does, 2 header and library differ. */
 #include <stdio.h>
+#include <string.h>
 
 #include "yudronkha.h"
 
-enum { PATTERN = 0x5a, BEHIND = 4 };
+enum { PATTERN = 0x5a, BEHIND = 4, ANSWER = 24, OUTPUT = YUDRONKHA_LOG_BYTES(2) };
 
 /* One statement, a dict with the keys 10000000000 and 1e10: a record of code 13, with strict keys one of code 16 too. */
 static const uint8_t tree[] = {
@@ -19,38 +20,60 @@ static const uint8_t tree[] = {
     4, 8, 0, 0x00, 0x00, 0x00, 0x20, 0x5f, 0xa0, 0x02, 0x42,
 };
 
-/* The lengths of a call, and what it must answer. */
+/* The log of the tree with ordinary and with strict keys, as the first call with ample rooms writes it, and its bytes. */
+static uint8_t logs[2][OUTPUT];
+static size_t log_bytes[2];
+
+/* The lengths of a call, and what it must answer. The output room of a log is so many bytes more than the log, or NONE. */
 struct call {
     const char *name;
-    int strict;
-    size_t tree_len, work_len, answer_len, report_len;
+    int log, strict;
+    size_t tree_len, work_len, answer_len;
+    int more;
+    size_t report_len;
     size_t number, place;
 };
 
 #define TREE sizeof tree
 #define WORK YUDRONKHA_WORK_WORDS
 #define REPORT YUDRONKHA_REPORT_WORDS
+#define LOG_REPORT YUDRONKHA_SARIF_REPORT_WORDS
+#define NONE (-OUTPUT)
+#define THE_LOGS SIZE_MAX /* the place of 12 */
 static const struct call calls[] = {
-    {"all rooms ample", 0, TREE, WORK + 1, 24, REPORT + 1, 0, 1},
-    {"strict keys", 1, TREE, WORK + 1, 24, REPORT + 1, 0, 2},
-    {"answer room exact", 0, TREE, WORK, 8, REPORT, 0, 1},
-    {"answer room exact, strict keys", 1, TREE, WORK, 16, REPORT, 0, 2},
-    {"no report", 0, TREE, WORK, 8, 0, 0, 1},
-    {"a report of one word", 0, TREE, WORK, 8, 1, 0, 1},
-    {"a report short of a word", 0, TREE, WORK, 8, REPORT - 1, 0, 1},
-    {"no work room", 0, TREE, 0, 24, REPORT, 10, 0},
-    {"work room short of a word", 0, TREE, WORK - 1, 24, REPORT, 10, 0},
-    {"no answer room", 0, TREE, WORK, 0, REPORT, 11, 1},
-    {"answer room short of a word", 0, TREE, WORK + 1, 7, REPORT, 11, 1},
-    {"answer room short of a record, strict keys", 1, TREE, WORK, 15, REPORT, 11, 2},
-    {"no room at all", 0, TREE, 0, 0, 0, 10, 0},
-    {"an empty tree", 0, 0, WORK, 24, REPORT, 1, 0},
-    {"a tree short of a byte", 0, TREE - 1, WORK, 24, REPORT, 4, 0},
+    {"all rooms ample", 0, 0, TREE, WORK + 1, ANSWER, 0, REPORT + 1, 0, 1},
+    {"strict keys", 0, 1, TREE, WORK + 1, ANSWER, 0, REPORT + 1, 0, 2},
+    {"answer room exact", 0, 0, TREE, WORK, 8, 0, REPORT, 0, 1},
+    {"answer room exact, strict keys", 0, 1, TREE, WORK, 16, 0, REPORT, 0, 2},
+    {"no report", 0, 0, TREE, WORK, 8, 0, 0, 0, 1},
+    {"a report of one word", 0, 0, TREE, WORK, 8, 0, 1, 0, 1},
+    {"a report short of a word", 0, 0, TREE, WORK, 8, 0, REPORT - 1, 0, 1},
+    {"no work room", 0, 0, TREE, 0, ANSWER, 0, REPORT, 10, 0},
+    {"work room short of a word", 0, 0, TREE, WORK - 1, ANSWER, 0, REPORT, 10, 0},
+    {"no answer room", 0, 0, TREE, WORK, 0, 0, REPORT, 11, 1},
+    {"answer room short of a word", 0, 0, TREE, WORK + 1, 7, 0, REPORT, 11, 1},
+    {"answer room short of a record, strict keys", 0, 1, TREE, WORK, 15, 0, REPORT, 11, 2},
+    {"no room at all", 0, 0, TREE, 0, 0, 0, 0, 10, 0},
+    {"an empty tree", 0, 0, 0, WORK, ANSWER, 0, REPORT, 1, 0},
+    {"a tree short of a byte", 0, 0, TREE - 1, WORK, ANSWER, 0, REPORT, 4, 0},
+    {"log, all rooms ample", 1, 0, TREE, WORK + 1, ANSWER, 9, LOG_REPORT + 1, 0, 1},
+    {"log, strict keys", 1, 1, TREE, WORK + 1, ANSWER, 9, LOG_REPORT + 1, 0, 2},
+    {"log, rooms exact", 1, 0, TREE, WORK, 8, 0, LOG_REPORT, 0, 1},
+    {"log, rooms exact, strict keys", 1, 1, TREE, WORK, 16, 0, LOG_REPORT, 0, 2},
+    {"log, a report short of a word", 1, 0, TREE, WORK, 8, 0, LOG_REPORT - 1, 0, 1},
+    {"log, no report", 1, 0, TREE, WORK, 8, 0, 0, 0, 1},
+    {"log, output room short of a byte", 1, 0, TREE, WORK + 1, ANSWER, -1, LOG_REPORT, 12, THE_LOGS},
+    {"log, output room short of a byte, strict keys", 1, 1, TREE, WORK, ANSWER, -1, LOG_REPORT, 12, THE_LOGS},
+    {"log, no output room", 1, 0, TREE, WORK, ANSWER, NONE, LOG_REPORT, 12, THE_LOGS},
+    {"log, answer room short of a word too", 1, 0, TREE, WORK, 7, -1, LOG_REPORT, 11, 1},
+    {"log, work room short of a word too", 1, 0, TREE, WORK - 1, 7, -1, LOG_REPORT, 10, 0},
+    {"log, an empty tree", 1, 0, 0, WORK, ANSWER, 0, LOG_REPORT, 1, 0},
 };
 
 static uint16_t work[WORK + 1 + BEHIND];
-static uint32_t answer[24 + BEHIND];
-static size_t report[REPORT + 1 + BEHIND];
+static uint32_t answer[ANSWER + BEHIND];
+static uint8_t output[OUTPUT + BEHIND];
+static size_t report[LOG_REPORT + 1 + BEHIND];
 
 #define COUNT(array) (sizeof array / sizeof *array)
 
@@ -62,48 +85,117 @@ static void fill(void)
         answer[k] = PATTERN;
     for (size_t k = 0; k < COUNT(report); k++)
         report[k] = PATTERN;
+    memset(output, PATTERN, sizeof output);
 }
 
 static size_t report_word(const struct call *c, size_t k)
 {
-    if (k >= c->report_len || k >= REPORT)
+    if (k >= c->report_len || k >= (c->log ? LOG_REPORT : REPORT))
         return PATTERN;
     if (k == 0)
-        return c->place;
+        return c->place == THE_LOGS ? log_bytes[c->strict] : c->place;
     if (c->number != YUDRONKHA_LISTED)
         return 0;
+    if (k == YUDRONKHA_REPORT_BYTES)
+        return log_bytes[c->strict];
     return k == YUDRONKHA_NO_EFFECT || (k == YUDRONKHA_DUPLICATE_KEY && c->strict);
 }
 
-/* Every word of work room and report, the answer room past the records and the first record's code, and the words behind them. */
+/* Every word of work room and report, every byte of the output room, the answer room past the records and the first record's
+ * code, and the words behind them. */
 static int as_said(const struct call *c)
 {
-    int cleared = c->number == YUDRONKHA_LISTED || c->number == YUDRONKHA_REFUSED_ANSWER_ROOM;
-    size_t written = c->number == YUDRONKHA_LISTED ? c->place * YUDRONKHA_RECORD_WORDS : 0;
+    int listed = c->number == YUDRONKHA_LISTED;
+    int cleared = listed || c->number >= YUDRONKHA_REFUSED_ANSWER_ROOM;
+    size_t records = listed ? c->place * YUDRONKHA_RECORD_WORDS : 0;
+    size_t bytes = listed && c->log ? log_bytes[c->strict] : 0;
     for (size_t k = 0; k < COUNT(work); k++)
         if (work[k] != (cleared && k < WORK ? 0 : PATTERN))
             return 0;
-    for (size_t k = written; k < COUNT(answer); k++)
+    for (size_t k = records; k < COUNT(answer); k++)
         if (answer[k] != PATTERN)
             return 0;
     for (size_t k = 0; k < COUNT(report); k++)
         if (report[k] != report_word(c, k))
             return 0;
-    return written == 0 || answer[YUDRONKHA_CODE] == YUDRONKHA_NO_EFFECT;
+    for (size_t k = bytes; k < COUNT(output); k++)
+        if (output[k] != PATTERN)
+            return 0;
+    return memcmp(output, logs[c->strict], bytes) == 0 && (records == 0 || answer[YUDRONKHA_CODE] == YUDRONKHA_NO_EFFECT);
+}
+
+static size_t called(const struct call *c)
+{
+    if (!c->log)
+        return (c->strict ? yudronkha_lint_strict : yudronkha_lint)(
+            tree, c->tree_len, work, c->work_len, answer, c->answer_len, report, c->report_len);
+    return (c->strict ? yudronkha_sarif_strict : yudronkha_sarif)(
+        tree, c->tree_len, work, c->work_len, answer, c->answer_len, output,
+        c->more == NONE ? 0 : log_bytes[c->strict] + (size_t)c->more, report, c->report_len);
+}
+
+/* The whole log: one line's end at its end, and of a room of that size nothing left. */
+static int log_kept(int strict)
+{
+    size_t number = (strict ? yudronkha_sarif_strict : yudronkha_sarif)(
+        tree, TREE, work, COUNT(work), answer, COUNT(answer), logs[strict], OUTPUT, report, COUNT(report));
+    log_bytes[strict] = report[YUDRONKHA_REPORT_BYTES];
+    return number == YUDRONKHA_LISTED && log_bytes[strict] < OUTPUT && logs[strict][0] == '{' && logs[strict][log_bytes[strict] - 1] == '\n';
+}
+
+/* A code, and its name and severity; what is no code has no name. */
+static const struct code {
+    size_t code;
+    const char *name;
+    size_t severity;
+} codes[] = {
+    {0, "", YUDRONKHA_WARNING},
+    {YUDRONKHA_UNUSED_LOAD, "unused-load", YUDRONKHA_DISABLED},
+    {YUDRONKHA_MISSING_RETURN, "missing-return", YUDRONKHA_WARNING},
+    {YUDRONKHA_REDUNDANT_CONTINUE, "redundant-continue", YUDRONKHA_DISABLED},
+    {YUDRONKHA_DUPLICATE_TOP_LEVEL_ASSIGN, "duplicate-top-level-assign", YUDRONKHA_WARNING},
+    {YUDRONKHA_IDENTIFIER_AS_STATEMENT, "ident-as-statement", YUDRONKHA_WARNING},
+    {YUDRONKHA_CODES + 1, "", YUDRONKHA_WARNING},
+    {((size_t)1 << 32) + YUDRONKHA_UNUSED_LOAD, "", YUDRONKHA_WARNING},
+    {SIZE_MAX, "", YUDRONKHA_WARNING},
+};
+
+/* In every room up to one that is longer than the longest name. */
+static int named(const struct code *c)
+{
+    size_t whole = strlen(c->name);
+    for (size_t room = 0; room <= YUDRONKHA_NAME_BYTES + 1; room++) {
+        fill();
+        size_t written = room < whole ? room : whole;
+        if (yudronkha_short_name(c->code, output, room) != whole || memcmp(output, c->name, written) != 0 || output[written] != PATTERN)
+            return 0;
+    }
+    return yudronkha_severity(c->code) == c->severity;
 }
 
 int main(void)
 {
     int status = 0;
+    if (yudronkha_version() != YUDRONKHA_VERSION) {
+        printf("yudronkha.h is of version %d and the library of %zu\n", YUDRONKHA_VERSION, yudronkha_version());
+        return 2;
+    }
+    if (!log_kept(0) || !log_kept(1)) {
+        puts("the log in ample rooms is not as the header says");
+        return 1;
+    }
     for (size_t i = 0; i < COUNT(calls); i++) {
-        const struct call *c = &calls[i];
         fill();
-        size_t number = (c->strict ? yudronkha_lint_strict : yudronkha_lint)(
-            tree, c->tree_len, work, c->work_len, answer, c->answer_len, report, c->report_len);
-        if (number != c->number || !as_said(c)) {
-            printf("%s: number %zu, or a word, is not as the header says\n", c->name, number);
+        size_t number = called(&calls[i]);
+        if (number != calls[i].number || !as_said(&calls[i])) {
+            printf("%s: number %zu, or a word, is not as the header says\n", calls[i].name, number);
             status = 1;
         }
     }
+    for (size_t i = 0; i < COUNT(codes); i++)
+        if (!named(&codes[i])) {
+            printf("code %zu: severity or name is not as the header says\n", codes[i].code);
+            status = 1;
+        }
     return status;
 }

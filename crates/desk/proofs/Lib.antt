@@ -1,2 +1,2 @@
--- What the joined call's promise gives the log.
-pub mod Listing
+-- What the promises of the calls give the program: the bytes that it hands to its write calls.
+pub mod Handed

@@ -1,8 +1,10 @@
 // Answers, each ended by a line `--`. Each function tells whether the next request is to be read.
-ghost use Prim.Native.Nat.{_+_, _*_, _≤_};
+ghost use Prim.Native.Nat.{_+_, _*_, _≤_, min};
+ghost use mathlib.Core.Path.{_≡_};
 ghost use lib.ListN.{length};
-ghost use Rattle.rules.specs.Record.{width};
-ghost use Rattle.log.specs.Pieces.{Small, Starts, piece-most};
+ghost use Rattle.log.specs.Pieces.{Starts, piece-most};
+ghost use Rattle.desk.specs.Choices.{mode-of};
+ghost use Rattle.desk.specs.Handed.{list-answer, refusal-answer, log-piece, Lists};
 use crate::reading::ALL;
 use crate::reading::Rooms;
 use libc::STDERR_FILENO;
@@ -27,7 +29,7 @@ pub fn say(s: &[u8]) -> bool {
 }
 
 pub fn least(a: usize, b: usize) -> usize
-    ensures { λ r. ⌜ r ≤ b ⌝ }
+    ensures { λ r. ⌜ r ≡ min a b ⌝ }
 {
     if a < b {
         return a;
@@ -35,42 +37,48 @@ pub fn least(a: usize, b: usize) -> usize
     b
 }
 
+// ---- what is handed to a write call, and nothing else of a tree that is listed, logged or refused
+
+fn hand_list(s: &[u8], choices: usize, t: &[u8], work: &[u16], answer: &[u32]) -> bool
+    requires { ⌜ now s ≡ list-answer choices (now t) (now work) (now answer) ⌝ }
+{
+    say(s)
+}
+
+fn hand_refusal(s: &[u8], why: Refusal) -> bool
+    requires { ⌜ now s ≡ refusal-answer why ⌝ }
+{
+    say(s)
+}
+
+fn hand_piece(s: &[u8], choices: usize, t: &[u8], k: usize) -> bool
+    requires { ⌜ now s ≡ log-piece choices (now t) k ⌝ }
+{
+    say(s)
+}
+
+// ---- answers
+
 fn refused(page: &mut [u8], why: Refusal) -> bool
     requires { ⌜ piece-most ≤ length (now page) ⌝ }
 {
     let a = text::refused(page, why);
     let b = page::raw(page, a, b"--\n");
-    say(&page[..b])
+    hand_refusal(&page[..b], why)
 }
 
-// A list in one write.
-fn list(
-    t: &[u8],
-    choices: usize,
-    rooms: Rooms,
-    work: &mut [u16],
-    answer: &mut [u32],
-    page: &mut [u8],
-) -> bool
-    requires { ⌜ 11 * length (now answer) + piece-most ≤ length (now page) ⌝ }
+fn list(t: &[u8], choices: usize, work: &mut [u16], answer: &mut [u32], page: &mut [u8]) -> bool
+    requires { ⌜ (11 * length (now answer) + piece-most ≤ length (now page)) × (length (now page) ≤ 18446744073709551614) ⌝ }
 {
-    let w = least(rooms.work, work.len());
-    let r = least(rooms.answer, answer.len());
-    let a = text::text(
-        t,
-        crate::choices::mode(choices),
-        &mut work[..w],
-        &mut answer[..r],
-        crate::choices::tally(choices),
-        page,
-    );
+    let mode = crate::choices::mode(choices);
+    let a = text::text(t, mode, work, answer, crate::choices::tally(choices), page);
     let b = page::raw(page, a, b"--\n");
-    say(&page[..b])
+    hand_list(&page[..b], choices, t, work, answer)
 }
 
-// Piece k of a log, in one write.
 fn piece(
     page: &mut [u8],
+    choices: usize,
     t: &[u8],
     starts: &[usize; 512],
     list: &[u32],
@@ -78,25 +86,27 @@ fn piece(
     tally: [usize; CODES],
     k: usize,
 ) -> bool
-    requires { ⌜ Small (now t) × Starts (now t) (now starts) × (width * n ≤ length (now list)) × (k ≤ n + 1) × (piece-most ≤ length (now page)) ⌝ }
+    requires { ⌜ Lists (mode-of choices) (now t) (now list) n tally × Starts (now t) (now starts) × (k ≤ n + 1) × (piece-most ≤ length (now page)) ⌝ }
 {
     let got = log::piece(page, t, starts, list, n, tally, k);
-    say(&page[..got])
+    hand_piece(&page[..got], choices, t, k)
 }
 
+// One piece after the other.
 fn pieces(
     page: &mut [u8],
+    choices: usize,
     t: &[u8],
     starts: &[usize; 512],
     list: &[u32],
     n: usize,
     tally: [usize; CODES],
 ) -> bool
-    requires { ⌜ Small (now t) × Starts (now t) (now starts) × (width * n ≤ length (now list)) × (piece-most ≤ length (now page)) ⌝ }
+    requires { ⌜ Lists (mode-of choices) (now t) (now list) n tally × Starts (now t) (now starts) × (piece-most ≤ length (now page)) ⌝ }
 {
     let mut k = 0;
     while k <= n + 1 {
-        if !piece(page, t, starts, list, n, tally, k) {
+        if !piece(page, choices, t, starts, list, n, tally, k) {
             return false;
         }
         k += 1;
@@ -107,6 +117,7 @@ fn pieces(
 // The log of a list, where the output room that was asked for holds it.
 fn measured(
     page: &mut [u8],
+    choices: usize,
     t: &[u8],
     starts: &[usize; 512],
     list: &[u32],
@@ -114,61 +125,54 @@ fn measured(
     tally: [usize; CODES],
     other: usize,
 ) -> bool
-    requires { ⌜ Small (now t) × Starts (now t) (now starts) × (width * n ≤ length (now list)) × (piece-most ≤ length (now page)) ⌝ }
+    requires { ⌜ Lists (mode-of choices) (now t) (now list) n tally × Starts (now t) (now starts) × (piece-most ≤ length (now page)) ⌝ }
 {
     let needed = log::log(&mut page[..0], t, starts, list, n, tally);
     if other < needed {
         return refused(page, Refusal::OtherRoom(needed));
     }
-    pieces(page, t, starts, list, n, tally)
+    pieces(page, choices, t, starts, list, n, tally)
 }
 
 // A log is measured only where an output room was asked for: the program has one for every log, a piece at a time.
 fn logged(
     page: &mut [u8],
+    choices: usize,
     t: &[u8],
     list: &[u32],
     n: usize,
     tally: [usize; CODES],
     other: usize,
 ) -> bool
-    requires { ⌜ Small (now t) × (width * n ≤ length (now list)) × (piece-most ≤ length (now page)) ⌝ }
+    requires { ⌜ Lists (mode-of choices) (now t) (now list) n tally × (piece-most ≤ length (now page)) ⌝ }
 {
     let starts = log::starts(t);
     if other < ALL {
-        return measured(page, t, &starts, list, n, tally, other);
+        return measured(page, choices, t, &starts, list, n, tally, other);
     }
-    pieces(page, t, &starts, list, n, tally)
+    pieces(page, choices, t, &starts, list, n, tally)
 }
 
 fn log(
     t: &[u8],
     choices: usize,
-    rooms: Rooms,
+    other: usize,
     work: &mut [u16],
     answer: &mut [u32],
     page: &mut [u8],
 ) -> bool
-    requires { ⌜ 11 * length (now answer) + piece-most ≤ length (now page) ⌝ }
+    requires { ⌜ piece-most ≤ length (now page) ⌝ }
 {
-    let w = least(rooms.work, work.len());
-    let r = least(rooms.answer, answer.len());
-    let a = lint::lint(
-        t,
-        crate::choices::mode(choices),
-        &mut work[..w],
-        &mut answer[..r],
-    );
+    let a = lint::lint(t, crate::choices::mode(choices), work, answer);
     let o = a.outcome;
     let counts = a.tally;
-    let other = rooms.other;
     match o {
-        Outcome::Listed(n) => logged(page, t, answer, n, counts, other),
+        Outcome::Listed(n) => logged(page, choices, t, answer, n, counts, other),
         Outcome::Refused(why) => refused(page, why),
     }
 }
 
-// A list or a log, as the choices say.
+// A list or a log, as the choices say, in rooms of the sizes that were asked for.
 pub fn serve(
     t: &[u8],
     choices: usize,
@@ -177,10 +181,13 @@ pub fn serve(
     answer: &mut [u32],
     page: &mut [u8],
 ) -> bool
-    requires { ⌜ 11 * length (now answer) + piece-most ≤ length (now page) ⌝ }
+    requires { ⌜ (11 * length (now answer) + piece-most ≤ length (now page)) × (length (now page) ≤ 18446744073709551614) ⌝ }
 {
+    let w = least(rooms.work, work.len());
+    let r = least(rooms.answer, answer.len());
+    let other = rooms.other;
     if crate::choices::log(choices) {
-        return log(t, choices, rooms, work, answer, page);
+        return log(t, choices, other, &mut work[..w], &mut answer[..r], page);
     }
-    list(t, choices, rooms, work, answer, page)
+    list(t, choices, &mut work[..w], &mut answer[..r], page)
 }

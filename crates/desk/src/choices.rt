@@ -1,46 +1,56 @@
 // What a request asks for: a bit for each choice. docs/DESK.md has the table.
+ghost use Prim.Native.Nat.{_≤_};
+ghost use mathlib.Core.Path.{_≡_};
+ghost use Rattle.desk.specs.Choices.{asks, mode-of, log-asked, tally-asked, rooms-follow, second-follows, known};
 use tree::Mode;
 
-fn asks(choices: usize, bit: usize) -> bool {
-    if bit == 0 {
-        return false;
-    }
+fn asks(choices: usize, bit: usize) -> bool
+    requires { ⌜ 1 ≤ bit ⌝ }
+    ensures { λ r. ⌜ r ≡ asks choices bit ⌝ }
+{
     choices / bit % 2 == 1
 }
 
-// Bit 0.
-pub fn mode(choices: usize) -> Mode {
+pub fn mode(choices: usize) -> Mode
+    ensures { λ r. ⌜ r ≡ mode-of choices ⌝ }
+{
     if asks(choices, 1) {
         return Mode::Strict;
     }
     Mode::Ordinary
 }
 
-// Bit 1.
-pub fn log(choices: usize) -> bool {
+pub fn log(choices: usize) -> bool
+    ensures { λ r. ⌜ r ≡ log-asked choices ⌝ }
+{
     asks(choices, 2)
 }
 
-// Bit 14.
-pub fn tally(choices: usize) -> bool {
+pub fn tally(choices: usize) -> bool
+    ensures { λ r. ⌜ r ≡ tally-asked choices ⌝ }
+{
     asks(choices, 16384)
 }
 
-// Bit 15.
-pub fn rooms(choices: usize) -> bool {
+pub fn rooms(choices: usize) -> bool
+    ensures { λ r. ⌜ r ≡ rooms-follow choices ⌝ }
+{
     asks(choices, 32768)
 }
 
-// Bits 3 and 5: an accepted list, or a second script's nodes.
-pub fn second(choices: usize) -> bool {
+// An accepted list, or a second script's nodes.
+pub fn second(choices: usize) -> bool
+    ensures { λ r. ⌜ r ≡ second-follows choices ⌝ }
+{
     if asks(choices, 8) {
         return true;
     }
     asks(choices, 32)
 }
 
-// Bits 0, 1, 14 and 15 and no other; a log has no line of counts.
-pub fn known(choices: usize) -> bool {
+pub fn known(choices: usize) -> bool
+    ensures { λ r. ⌜ r ≡ known choices ⌝ }
+{
     if 4 <= choices % 16384 {
         return false;
     }

@@ -47,7 +47,7 @@ fn asked(
     answer: &mut [u32],
     page: &mut [u8],
 ) -> bool
-    requires { ⌜ 11 * length (now answer) + piece-most ≤ length (now page) ⌝ }
+    requires { ⌜ (11 * length (now answer) + piece-most ≤ length (now page)) × (length (now page) ≤ 18446744073709551614) ⌝ }
 {
     let rooms = crate::reading::sizes(choices);
     let got = crate::reading::inputs(bytes, choices);
@@ -70,7 +70,7 @@ fn over() -> bool {
 
 // The next request, if there is one more.
 fn next(bytes: &mut [u8], work: &mut [u16], answer: &mut [u32], page: &mut [u8]) -> bool
-    requires { ⌜ 11 * length (now answer) + piece-most ≤ length (now page) ⌝ }
+    requires { ⌜ (11 * length (now answer) + piece-most ≤ length (now page)) × (length (now page) ≤ 18446744073709551614) ⌝ }
 {
     let w = crate::reading::next();
     match w {
@@ -82,7 +82,7 @@ fn next(bytes: &mut [u8], work: &mut [u16], answer: &mut [u32], page: &mut [u8])
 
 // One request after the other.
 fn requests(bytes: &mut [u8], work: &mut [u16], answer: &mut [u32], page: &mut [u8])
-    requires { ⌜ 11 * length (now answer) + piece-most ≤ length (now page) ⌝ }
+    requires { ⌜ (11 * length (now answer) + piece-most ≤ length (now page)) × (length (now page) ≤ 18446744073709551614) ⌝ }
 {
     let mut left: usize = 18446744073709551615;
     while 0 < left {

@@ -3,7 +3,7 @@
 use libc::STDIN_FILENO;
 use tree::bytes::u32_at;
 
-// No valid tree is longer: 1,024 nodes, 512 values of 255 bytes, 512 globals.
+// No valid tree is longer: `file-longest` of tree, proofs/Longest.
 pub const LONGEST: usize = 149515;
 
 // A size above every room that the program has.

@@ -1,4 +1,8 @@
 // 01's listing program: the joined call, ordinary keys, on standard input with room for 2,048 records.
+ghost use mathlib.Core.Path.{_≡_};
+ghost use mathlib.Core.Bool.{false};
+ghost use Rattle.tree.specs.declared.Mode.the-variants.{Ordinary};
+ghost use Rattle.text.specs.Text.{text-of};
 use libc::STDERR_FILENO;
 use libc::STDIN_FILENO;
 use libc::STDOUT_FILENO;
@@ -12,20 +16,32 @@ const ANSWER: usize = WIDTH * 2048;
 // Bytes for every text of a call with that much answer room.
 const PAGE: usize = 11 * ANSWER + 400;
 
-// The text of a file, in one write.
+fn say(s: &[u8]) {
+    if !io::write_all(STDOUT_FILENO, s) {
+        io::write_all(STDERR_FILENO, b"standard output can't be written\n");
+    }
+}
+
+// Nothing is written of a tree but the text of the joined call on it, lent such rooms.
+fn hand(s: &[u8], t: &[u8], work: &[u16], answer: &[u32])
+    requires { ⌜ now s ≡ text-of false Ordinary (now t) (now work) (now answer) ⌝ }
+{
+    say(s);
+}
+
 fn list(t: &[u8]) {
     let mut work = [0u16; WORK_WORDS];
     let mut answer = [0u32; ANSWER];
     let mut page = [0u8; PAGE];
     let n = text::text(t, Mode::Ordinary, &mut work, &mut answer, false, &mut page);
-    io::write_all(STDOUT_FILENO, &page[..n]);
+    hand(&page[..n], t, &work, &answer);
 }
 
 fn main() {
     let mut bytes = [0u8; 49153];
     let got = io::read_full(STDIN_FILENO, &mut bytes);
     if 49152 < got {
-        io::write_all(STDOUT_FILENO, b"too long\n");
+        say(b"too long\n");
         return;
     }
     if input::unreadable() {

@@ -1,4 +1,5 @@
--- SARIF 2.1.0, 3.11.5: every message of a log is shown as its phrase, its value's kind and the value as it is. Assumes nothing.
+-- SARIF 2.1.0, 3.11.5, placeholders alone, over bytes before JSON's escape: a message fills to its phrase, its value's kind and the
+-- value; in the log bytes outside UTF-8 are as the escape has them. Assumes nothing.
 use Prim.Native.Nat.{ℕ}
 use mathlib.Core.Path.{_≡_, refl, sym, ap, _∙_}
 use mathlib.Core.Bool.{Bool, true, false, cond, _&&_, not}
@@ -75,7 +76,7 @@ message-shown vs c v = go (ltb v (length vs)) refl
         let z : at vs v ≡ no-value = List·getD-eq-default vs no-value (ltb-false v (length vs) e) in
         none-shown c ∙ ap (λ (w : Value). some (phrase c ++ (kind-word (w .kind) ++ shown w))) (sym z)
 
--- EVERY MESSAGE IS SHOWN AS IT IS MEANT, for every file and every record
+-- EVERY MESSAGE FILLS TO WHAT IT SAYS, for every file and every record
 pub message-filled : (t : List ℕ) (r : Rec) → let o = value-of (tableOf t) (r .spot .value) in
     filled (arguments o) (message-text (r .code) o) ≡ some (says (tableOf t) (r .code) (r .spot .value))
 message-filled t r = message-shown (tableOf t) (r .code) (r .spot .value)
@@ -87,7 +88,7 @@ other-filled c = alone (ascii (look c seconds "")) (look-so (λ n s. no-braces (
 pub third-filled : (c : ℕ) → filled [] (ascii (look c thirds "")) ≡ some (ascii (look c thirds ""))
 third-filled c = alone (ascii (look c thirds "")) (look-so (λ n s. no-braces (ascii s)) c thirds "" tt tt)
 
--- a key with braces and a link: as it stands
+-- a key with braces: an argument's are no placeholders
 pub braces-kept : filled (ascii "{name} [a](b) }" ∷ []) (ascii "Duplicate dictionary key string {0}")
     ≡ some (ascii "Duplicate dictionary key string {name} [a](b) }")
 unfolding fill

@@ -2,11 +2,11 @@
 use Prim.Native.Nat.{ℕ, suc, _+_, _≤_, _<_}
 use native.Mathlib.Omega.{arith}
 use native.Mathlib.Numerals.{add-one}
-use mathlib.Core.Path.{_≡_, refl, sym, ap, subst, _∙_}
+use mathlib.Core.Path.{_≡_, refl, sym, ap, ap₂, subst, _∙_}
 use mathlib.Core.Bool.{Bool, true, false, cond}
-use mathlib.Core.List.{List, [], _∷_, _++_, append-assoc}
-use lib.ListN.{length, set, drop, length-set, length-append}
-use lib.Seq.{set-append-seam, set-out}
+use mathlib.Core.List.{List, [], _∷_, _++_, append-assoc, append-nil}
+use lib.ListN.{length, set, take, drop, length-set, length-append}
+use lib.Seq.{set-append-seam, set-out, take-append-seam}
 use lib.Dec.{ltb}
 use borrow.Author.Tests.{lt-ltb, ltb-true, ltb-false}
 use Rattle.base.specs.Count.{one-more}
@@ -109,3 +109,22 @@ wrote-most {o = o} {n = n} s k h w =
     let e = ap (λ (p : Page). p .count) (w .so []) in
     let m = writes-most (page o n) (s ++ []) in
     record { so = w .so; most = omega (arith, length-append s []) }
+
+-- what was written from the first byte on, in room for it, stands there
+pub stands : {o o′ : List ℕ} {n k : ℕ} (s : List ℕ) → Wrote o 0 o′ n k (λ rest. s ++ rest) → k ≤ length o → k ≤ 18446744073709551614
+    → (n ≡ length s) × (take n o′ ≡ s)
+unfolding writes
+stands {o} {o′} {n} s w h m =
+    let e : page o′ n ≡ writes (page o 0) s = w .so [] ∙ ap (λ (l : List ℕ). writes (page o 0) l) (append-nil s) in
+    let c : n ≡ writes (page o 0) s .count = ap (λ (p : Page). p .count) e in
+    let l : n ≡ length s = c ∙ counted o s 0 (omega (arith, c, w .most)) ∙ omega arith in
+    let b : o′ ≡ s ++ drop (length s) o
+    = ap (λ (p : Page). p .out) e ∙ ap (λ (p : Page). p .out) (written o s (omega (arith, w .most)) (omega (arith, w .most))) in
+    (l, ap₂ (λ (i : ℕ) (x : List ℕ). take i x) l b ∙ take-append-seam s (drop (length s) o))
+
+-- a room and a count that are those of a text written from the first byte on
+pub as-wrote : {o o′ : List ℕ} {n k : ℕ} (s : List ℕ) → page o′ n ≡ writes (page o 0) s → n ≤ k → Wrote o 0 o′ n k (λ rest. s ++ rest)
+as-wrote {o} s e h = record {
+  so = λ rest. ap (λ (p : Page). writes p rest) e ∙ sym (writes-append (page o 0) s rest);
+  most = omega arith;
+}

@@ -3,7 +3,7 @@ use Prim.Native.Nat.{ℕ, zero, suc, _+_, _*_, _-_, _≤_, _<_}
 use native.Mathlib.Omega.{arith}
 use native.Mathlib.Numerals.{add-one}
 use mathlib.Core.Path.{_≡_, refl, sym, ap, _∙_}
-use mathlib.Core.Bool.{Bool, true, false, cond}
+use mathlib.Core.Bool.{Bool, true, false}
 use mathlib.Core.List.{List, [], _∷_, _++_, append-assoc}
 use lib.Dec.{eqb}
 use lib.ListN.{length, getD, drop, drop-of-length-le}
@@ -13,7 +13,7 @@ use Rattle.base.specs.Ascii.{ascii}
 use Rattle.page.specs.Digits.{decimal}
 use Rattle.page.specs.Page.{Wrote}
 use Rattle.page.proofs.Pages.{then, retold, nothing-wrote}
-use Rattle.rules.specs.Record.{Rec, words, width}
+use Rattle.rules.specs.Record.{words, width}
 use Rattle.rules.specs.Joined.{codes}
 use Rattle.rules.specs.Outcome.{numberOf, placeOf}
 use Rattle.rules.specs.Afterwards.{record-in, records-in}

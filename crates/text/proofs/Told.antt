@@ -21,7 +21,7 @@ use Rattle.rules.proofs.Called.{room-where-listed}
 use Rattle.lint.proofs.Demands.{lint-demand1, lint-records, lint-counts}
 use Rattle.page.specs.Page.{page, writes, Wrote}
 use Rattle.page.proofs.Pages.{then, retold}
-use Rattle.text.specs.Text.{listing, refused, counts, told, text-of, Done, done-with, text-call}
+use Rattle.text.specs.Text.{listing, refused, counts, told, text-of, done-with, text-call}
 use Rattle.text.specs.Pieces.{tally-line}
 
 counts-line : (asked : Bool) (rs : List Rec) → tally-line asked (tally-of rs) ≡ counts asked rs

@@ -37,7 +37,7 @@ listing rs = records rs ++ (ascii "total " ++ line (length rs ∷ []))
 unfoldable pub refused : Refusal → List ℕ
 refused why = ascii "refused " ++ line (numberOf why ∷ placeOf why ∷ [])
 
--- where it is asked for, the count of each code on a line more
+-- docs/DESK.md, bit 14: where it is asked for, the count of each code on a line more
 unfoldable pub counts : Bool → List Rec → List ℕ
 counts false rs = []
 counts true rs = ascii "tally " ++ line (tally-of rs)

@@ -1,4 +1,4 @@
-// The joined call's text, 01's listing, in lent bytes: a program hands it to one write. Lent too little room, a function only counts.
+// The joined call's text, 01's listing, in lent bytes: a program hands it to one write. A byte for which there is no room is only counted.
 ghost use mathlib.Core.Path.{_≡_};
 ghost use mathlib.Core.List.{_∷_, _++_};
 ghost use Prim.Native.Nat.{_+_, _*_, _≤_, _<_};
@@ -105,7 +105,9 @@ pub fn refused(out: &mut [u8], why: Refusal) -> usize
     ensures { λ r. ⌜ Wrote (now (out .entry)) 0 (now (out .exit)) r 50 (λ rest. refused-text why ++ rest) ⌝ }
 {
     let a = raw(out, 0, b"refused ");
-    let both = [why.number(), why.place()];
+    let number = why.number();
+    let place = why.place();
+    let both = [number, place];
     counts(out, a, &both)
 }
 

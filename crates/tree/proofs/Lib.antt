@@ -33,3 +33,4 @@ pub mod Fits
 pub mod Roles
 pub mod Entries
 pub mod Samples
+pub mod Longest

@@ -1,5 +1,6 @@
 -- The tree is what was read. Assumes nothing.
 use Rattle.io.proofs.Counting.{counts}
+use Rattle.desk.proofs.Handed.{within}
 use borrow.Author.Needs.{needs}
 use Rattle.desk.proofs.asked.Statement.{statement}
 use Rattle.desk.proofs.asked.Tie as tie
@@ -38,11 +39,11 @@ least-requires : tie.Need-least-requires
 least-requires c κs = search needs
 
 slice-reshare-prefix-serve : tie.Need-slice-reshare-prefix-serve
-slice-reshare-prefix-serve c = search needs
+slice-reshare-prefix-serve c = within _ _ (c .least .ensures)
 
 slice-aggregate-serve : tie.Need-slice-aggregate-serve
 slice-aggregate-serve c =
-    counts (c .before .least .result) (c .before .before .before .before .before .before .before .before .before .inputs .last .0) (c .before .least .ensures) .1
+    counts (c .before .least .result) (c .before .before .before .before .before .before .before .before .before .inputs .last .0) (within _ _ (c .before .least .ensures)) .1
 
 serve-requires : tie.Need-serve-requires
 serve-requires c κs = search needs

@@ -4,7 +4,7 @@ use mathlib.Core.Path.{sym}
 use lib.ListN.{replicate, length-replicate}
 use Rattle.rules.specs.Record.{width}
 use Rattle.log.specs.Pieces.{piece-most}
-use Rattle.desk.proofs.Listing.{page-enough}
+use Rattle.desk.proofs.Handed.{page-enough}
 use borrow.Author.Needs.{needs}
 use Rattle.desk.proofs.main.Statement.{statement}
 use Rattle.desk.proofs.main.Tie as tie

@@ -1,7 +1,4 @@
--- The four parts of what is called, from the joined call's answer taken apart. Assumes nothing.
-use mathlib.Core.Path.{ap, _∙_}
-use Rattle.rules.specs.Calls.{Done-with-work}
-use Rattle.lint_c.specs.Face.{numberOf}
+-- What is called, from the joined call and what is told of its answer. Assumes nothing.
 use Rattle.lint_c.proofs.Laws.{told}
 use borrow.Author.Needs.{needs}
 use Rattle.lint_c.proofs.call.Statement.{statement}
@@ -10,14 +7,8 @@ use Rattle.lint_c.proofs.call.Tie as tie
 lint-requires : tie.Need-lint-requires
 lint-requires c κs = search needs
 
-place-of-requires : tie.Need-place-of-requires
-place-of-requires c κs = search needs
-
 tell-requires : tie.Need-tell-requires
 tell-requires c κs = search needs
-
-number-of-requires : tie.Need-number-of-requires
-number-of-requires c κs = search needs
 
 same-length : tie.Need-same-length
 same-length c = search needs
@@ -30,20 +21,12 @@ same-length-3 c = search needs
 
 returns : tie.Need-returns
 returns c =
-    let e = c .before .before .before .before .before .before .before .before .before .before .before .lint .ensures in
-    let n = c .number-of .ensures ∙ ap (λ (d : Done-with-work). numberOf (d .answer .outcome)) e in
-    let t = told _ _ _ _ _ (ap (λ (d : Done-with-work). d .answer) e) (c .before .before .before .before .before .place-of .ensures) (c .before .before .before .tell .ensures) in
-    λ i. record { number = n i; work = e i .work; room = e i .room; report = t i }
+    let a = c .before .before .before .before .before .before .before .before .before .before .before .before .before .before .before .args in
+    let l = c .before .before .before .before .before .before .before .before .lint in
+    let t = c .before .before .tell in
+    told (a .mode) (a .t .now) (a .work .now) (a .out .now) (a .report .now) (l .result) (l .last .1 .1 .0) (l .last .1 .1 .1 .0) (t .last .1 .0) (t .result) (l .ensures) (t .ensures .0) (t .ensures .1)
 
 pub call-spec : {M : Type 1} → statement M
 call-spec =
     tie.close
-    (tie.spec
-    lint-requires
-    place-of-requires
-    tell-requires
-    number-of-requires
-    same-length
-    same-length-2
-    same-length-3
-    returns)
+    (tie.spec lint-requires tell-requires same-length same-length-2 same-length-3 returns)

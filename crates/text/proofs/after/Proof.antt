@@ -1,6 +1,5 @@
 -- By whether the number is the last. Assumes nothing.
 use native.Mathlib.Omega.{arith}
-use mathlib.Core.Path.{refl}
 use Rattle.page.proofs.Pages.{retold}
 use Rattle.text.specs.Pieces.{end-of}
 use mathlib.Core.List.{_∷_}

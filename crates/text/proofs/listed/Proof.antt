@@ -1,5 +1,4 @@
 -- The records, then total and their count. Assumes nothing.
-use native.Mathlib.Omega.{arith}
 use Rattle.text.proofs.Lines.{listing-wrote}
 use borrow.Author.Needs.{needs}
 use Rattle.text.proofs.listed.Statement.{statement}

@@ -1,5 +1,4 @@
 -- Number and place on a line. Assumes nothing.
-use native.Mathlib.Omega.{arith}
 use Rattle.text.proofs.Lines.{refused-wrote}
 use borrow.Author.Needs.{needs}
 use Rattle.text.proofs.refused.Statement.{statement}

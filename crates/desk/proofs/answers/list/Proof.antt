@@ -1,32 +1,13 @@
--- The text has room on the page. Assumes nothing.
+-- The text has room on the page, and is what stands there. Assumes nothing.
 use native.Mathlib.Omega.{arith}
 use Rattle.io.proofs.Counting.{counts}
+use Rattle.desk.proofs.Handed.{list-handed}
 use borrow.Author.Needs.{needs}
 use Rattle.desk.proofs.answers.list.Statement.{statement}
 use Rattle.desk.proofs.answers.list.Tie as tie
 
-least-requires : tie.Need-least-requires
-least-requires c κs = search needs
-
-least-requires-2 : tie.Need-least-requires-2
-least-requires-2 c κs = search needs
-
 mode-requires : tie.Need-mode-requires
 mode-requires c κs = search needs
-
-slice-relend-prefix-text : tie.Need-slice-relend-prefix-text
-slice-relend-prefix-text c = search needs
-
-slice-aggregate-text : tie.Need-slice-aggregate-text
-slice-aggregate-text c =
-    counts (c .before .before .before .least .result) (c .before .before .before .before .before .before .before .before .args .work .now) (c .before .before .before .least .ensures) .1
-
-slice-relend-prefix-text-2 : tie.Need-slice-relend-prefix-text-2
-slice-relend-prefix-text-2 c = search needs
-
-slice-aggregate-text-2 : tie.Need-slice-aggregate-text-2
-slice-aggregate-text-2 c =
-    counts (c .before .before .before .least2 .result) (c .before .before .before .before .before .before .before .before .before .args .answer .now) (c .before .before .before .least2 .ensures) .1
 
 tally-requires : tie.Need-tally-requires
 tally-requires c κs = search needs
@@ -40,17 +21,20 @@ slice-aggregate-raw c = search needs
 raw-requires : tie.Need-raw-requires
 raw-requires c κs = search needs
 
-slice-reshare-prefix-say : tie.Need-slice-reshare-prefix-say
-slice-reshare-prefix-say c =
-    omega (arith, c .before .before .raw .ensures .most, c .before .before .before .before .before .before .before .before .before .before .before .text .ensures .1, c .before .before .before .before .before .before .before .before .before .before .before .before .before .before .before .before .before .least2 .ensures, counts (c .before .before .before .before .before .before .before .before .before .before .before .before .before .before .before .before .before .least2 .result) (c .before .before .before .before .before .before .before .before .before .before .before .before .before .before .before .before .before .before .before .before .before .before .before .args .answer .now) (c .before .before .before .before .before .before .before .before .before .before .before .before .before .before .before .before .before .least2 .ensures) .1, c .before .before .before .before .before .before .before .before .before .before .before .before .before .before .before .before .before .before .before .before .before .before .before .pre)
+slice-reshare-prefix-hand-list : tie.Need-slice-reshare-prefix-hand-list
+slice-reshare-prefix-hand-list c =
+    omega (arith, c .before .before .raw .ensures .most, c .before .before .before .before .before .before .before .before .before .before .before .text .ensures .1, c .before .before .before .before .before .before .before .before .before .before .before .before .before .before .before .before .before .before .before .before .before .pre .0)
 
-slice-aggregate-say : tie.Need-slice-aggregate-say
-slice-aggregate-say c =
-    counts (c .before .before .before .raw .result) (c .before .before .before .raw .last .0)
-    (omega (arith, c .before .before .before .raw .ensures .most, c .before .before .before .before .before .before .before .before .before .before .before .before .text .ensures .1, c .before .before .before .before .before .before .before .before .before .before .before .before .before .before .before .before .before .before .least2 .ensures, counts (c .before .before .before .before .before .before .before .before .before .before .before .before .before .before .before .before .before .before .least2 .result) (c .before .before .before .before .before .before .before .before .before .before .before .before .before .before .before .before .before .before .before .before .before .before .before .before .args .answer .now) (c .before .before .before .before .before .before .before .before .before .before .before .before .before .before .before .before .before .before .least2 .ensures) .1, c .before .before .before .before .before .before .before .before .before .before .before .before .before .before .before .before .before .before .before .before .before .before .before .before .pre)) .1
+slice-aggregate-hand-list : tie.Need-slice-aggregate-hand-list
+slice-aggregate-hand-list c =
+    counts (c .before .before .before .raw .result) (c .before .before .before .raw .last .0) (omega (arith, c .before .before .before .raw .ensures .most, c .before .before .before .before .before .before .before .before .before .before .before .before .text .ensures .1, c .before .before .before .before .before .before .before .before .before .before .before .before .before .before .before .before .before .before .before .before .before .before .pre .0)) .1
 
-say-requires : tie.Need-say-requires
-say-requires c κs = search needs
+hand-list-requires : tie.Need-hand-list-requires
+hand-list-requires c κs =
+    let call = c .before .before .before .before .before .before .before .before .before .before .before .before .before .before .text in
+    let a = c .before .before .before .before .before .before .before .before .before .before .before .before .before .before .before .before .before .before .before .before .before .before .before .before .args in
+    list-handed (a .choices) (a .t .now) (a .work .now) (a .answer .now) (a .page .now) (c .before .before .before .before .before .before .before .before .before .before .before .before .before .before .before .before .tally .result) (c .before .before .before .before .before .before .before .before .before .before .before .before .before .before .before .before .before .before .before .mode .result) (c .before .before .before .before .before .before .before .before .before .before .before .before .before .before .before .before .tally .ensures) (c .before .before .before .before .before .before .before .before .before .before .before .before .before .before .before .before .before .before .before .mode .ensures)
+    (call .result) (call .last .1 .1 .1 .1 .1 .0) (call .last .1 .1 .0) (call .last .1 .1 .1 .0) (call .ensures .0) (call .ensures .1) (search needs) (search needs) (c .before .before .before .before .before .raw .ensures) (c .before .before .before .before .before .before .before .before .before .before .before .before .before .before .before .before .before .before .before .before .before .before .before .before .pre .0) (c .before .before .before .before .before .before .before .before .before .before .before .before .before .before .before .before .before .before .before .before .before .before .before .before .pre .1)
 
 same-length : tie.Need-same-length
 same-length c = search needs
@@ -68,20 +52,14 @@ pub list-spec : {M : Type 1} → statement M
 list-spec =
     tie.close
     (tie.spec
-    least-requires
-    least-requires-2
     mode-requires
-    slice-relend-prefix-text
-    slice-aggregate-text
-    slice-relend-prefix-text-2
-    slice-aggregate-text-2
     tally-requires
     text-requires
     slice-aggregate-raw
     raw-requires
-    slice-reshare-prefix-say
-    slice-aggregate-say
-    say-requires
+    slice-reshare-prefix-hand-list
+    slice-aggregate-hand-list
+    hand-list-requires
     same-length
     same-length-2
     same-length-3

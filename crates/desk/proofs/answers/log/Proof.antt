@@ -1,34 +1,12 @@
--- The list is one whose log can be written. Assumes nothing.
+-- The list is the rules', and its log can be written. Assumes nothing.
 use native.Mathlib.Omega.{arith}
-use lib.ListN.{take, drop, length-append}
-use Rattle.io.proofs.Counting.{counts}
-use Rattle.desk.proofs.Listing.{list-fits}
+use Rattle.desk.proofs.Handed.{lists}
 use borrow.Author.Needs.{needs}
 use Rattle.desk.proofs.answers.log.Statement.{statement}
 use Rattle.desk.proofs.answers.log.Tie as tie
 
-least-requires : tie.Need-least-requires
-least-requires c κs = search needs
-
-least-requires-2 : tie.Need-least-requires-2
-least-requires-2 c κs = search needs
-
 mode-requires : tie.Need-mode-requires
 mode-requires c κs = search needs
-
-slice-relend-prefix-lint : tie.Need-slice-relend-prefix-lint
-slice-relend-prefix-lint c = search needs
-
-slice-aggregate-lint : tie.Need-slice-aggregate-lint
-slice-aggregate-lint c =
-    counts (c .before .before .before .least .result) (c .before .before .before .before .before .before .before .before .args .work .now) (c .before .before .before .least .ensures) .1
-
-slice-relend-prefix-lint-2 : tie.Need-slice-relend-prefix-lint-2
-slice-relend-prefix-lint-2 c = search needs
-
-slice-aggregate-lint-2 : tie.Need-slice-aggregate-lint-2
-slice-aggregate-lint-2 c =
-    counts (c .before .before .before .least2 .result) (c .before .before .before .before .before .before .before .before .before .args .answer .now) (c .before .before .before .least2 .ensures) .1
 
 lint-requires : tie.Need-lint-requires
 lint-requires c κs = search needs
@@ -39,9 +17,8 @@ enum-known-o c = search needs
 logged-requires : tie.Need-logged-requires
 logged-requires c κs =
     let call = c .before .before .before .before .before .before .before .before .before .before .lint in
-    let a = c .before .before .before .before .before .before .before .before .before .before .before .before .before .before .before .before .before .before .before .before .args in
-    let fits = list-fits (c .before .before .before .before .before .before .before .before .before .before .before .before .before .mode .result) (a .t .now) (take (c .before .before .before .before .before .before .before .before .before .before .before .before .before .before .before .least .result) (a .work .now)) (take (c .before .before .before .before .before .before .before .before .before .before .before .before .before .before .least2 .result) (a .answer .now)) (call .result) (call .last .1 .1 .1 .0) (call .last .1 .1 .0) (call .ensures) (c .before .before .before .o .given .0 .0) (c .before .before .before .o .given .1) in
-    (fits .0, omega (arith, fits .1, length-append (call .last .1 .1 .1 .0) (drop (c .before .before .before .before .before .before .before .before .before .before .before .before .before .before .least2 .result) (a .answer .now))), omega (arith, c .before .before .before .before .before .before .before .before .before .before .before .before .before .before .before .before .before .before .before .before .pre))
+    let a = c .before .before .before .before .before .before .before .before .before .before .before .before .before .before .before .before .before .before .args in
+    (lists (a .choices) (a .t .now) (a .work .now) (a .answer .now) (c .before .before .before .before .before .before .before .before .before .before .before .before .before .mode .result) (c .before .before .before .before .before .before .before .before .before .before .before .before .before .mode .ensures) (call .result) (call .last .1 .1 .1 .0) (call .last .1 .1 .0) (call .ensures) (c .before .before .before .o .given .0 .0) (c .before .before .before .o .given .1), omega (arith, c .before .before .before .before .before .before .before .before .before .before .before .before .before .before .before .before .before .before .pre))
 
 enum-known-o-2 : tie.Need-enum-known-o-2
 enum-known-o-2 c = search needs
@@ -77,13 +54,7 @@ pub log-spec : {M : Type 1} → statement M
 log-spec =
     tie.close
     (tie.spec
-    least-requires
-    least-requires-2
     mode-requires
-    slice-relend-prefix-lint
-    slice-aggregate-lint
-    slice-relend-prefix-lint-2
-    slice-aggregate-lint-2
     lint-requires
     enum-known-o
     logged-requires

@@ -1,22 +1,26 @@
--- The piece has room on the page. Assumes nothing.
+-- The piece has room on the page, and is what stands there. Assumes nothing.
 use native.Mathlib.Omega.{arith}
 use Rattle.io.proofs.Counting.{counts}
+use Rattle.desk.proofs.Handed.{piece-handed}
 use borrow.Author.Needs.{needs}
 use Rattle.desk.proofs.answers.piece.Statement.{statement}
 use Rattle.desk.proofs.answers.piece.Tie as tie
 
 piece-requires : tie.Need-piece-requires
-piece-requires c κs = search needs
+piece-requires c κs = let p = c .before .before .before .before .pre in (p .0 .small, p .1, p .0 .enough, p .2)
 
-slice-reshare-prefix-say : tie.Need-slice-reshare-prefix-say
-slice-reshare-prefix-say c = search needs
+slice-reshare-prefix-hand-piece : tie.Need-slice-reshare-prefix-hand-piece
+slice-reshare-prefix-hand-piece c =
+    omega (arith, c .before .before .piece .ensures .most, c .before .before .before .before .before .before .before .pre .3)
 
-slice-aggregate-say : tie.Need-slice-aggregate-say
-slice-aggregate-say c =
-    counts (c .before .before .before .piece .result) (c .before .before .before .piece .last .0) (omega (arith, c .before .before .before .piece .ensures .most, c .before .before .before .before .before .before .before .before .pre .4)) .1
+slice-aggregate-hand-piece : tie.Need-slice-aggregate-hand-piece
+slice-aggregate-hand-piece c =
+    counts (c .before .before .before .piece .result) (c .before .before .before .piece .last .0) (omega (arith, c .before .before .before .piece .ensures .most, c .before .before .before .before .before .before .before .before .pre .3)) .1
 
-say-requires : tie.Need-say-requires
-say-requires c κs = search needs
+hand-piece-requires : tie.Need-hand-piece-requires
+hand-piece-requires c κs =
+    let a = c .before .before .before .before .before .before .before .before .args in
+    piece-handed (a .choices) (a .t .now) (a .list .now) (a .n) (a .tally) (a .k) (c .before .before .before .before .before .before .before .before .pre .0) (c .before .before .before .piece .ensures) (c .before .before .before .before .before .before .before .before .pre .3)
 
 same-length : tie.Need-same-length
 same-length c = search needs
@@ -29,8 +33,8 @@ piece-spec =
     tie.close
     (tie.spec
     piece-requires
-    slice-reshare-prefix-say
-    slice-aggregate-say
-    say-requires
+    slice-reshare-prefix-hand-piece
+    slice-aggregate-hand-piece
+    hand-piece-requires
     same-length
     returns)

@@ -8,19 +8,20 @@ use Rattle.desk.proofs.answers.pieces.Statement.{statement}
 use Rattle.desk.proofs.answers.pieces.Tie as tie
 
 abbrev Inv-loop : tie.InvT-loop
-Inv-loop page₀ t starts list n tally k₀ t8 page k = (k ≤ n + 2) × (length page ≡ length page₀)
+Inv-loop page₀ choices t starts list n tally k₀ t9 page k = (k ≤ n + 2) × (length page ≡ length page₀)
 
 abbrev μ-loop : tie.MeasureT-loop
-μ-loop page₀ t starts list n tally k₀ t8 page k = (n + 2) - k
+μ-loop page₀ choices t starts list n tally k₀ t9 page k = (n + 2) - k
 
 loop-holds : tie.Need-loop-holds Inv-loop μ-loop
 loop-holds c = search needs
 
 add-loop : tie.Need-add-loop Inv-loop μ-loop
-add-loop c = search needs
+add-loop c = omega (arith, c .before .before .before .before .pre .0 .enough)
 
 piece-requires : tie.Need-piece-requires Inv-loop μ-loop
-piece-requires c κs = search needs
+piece-requires c κs =
+    let p = c .before .before .before .before .before .before .pre in (p .0, p .1, omega arith, omega (arith, c .before .before .loop .inv .1, p .2))
 
 same-length : tie.Need-same-length Inv-loop μ-loop
 same-length c = search needs
@@ -29,7 +30,8 @@ returns : tie.Need-returns Inv-loop μ-loop
 returns c = search needs
 
 add-k : tie.Need-add-k Inv-loop μ-loop
-add-k c = search needs
+add-k c =
+    omega (arith, c .before .before .before .before .before .before .before .before .before .before .pre .0 .enough)
 
 loop-less : tie.Need-loop-less Inv-loop μ-loop
 loop-less c = search needs
