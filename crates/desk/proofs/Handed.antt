@@ -23,11 +23,11 @@ use Rattle.text.proofs.Promised.{text-ended}
 use Rattle.log.specs.Pieces.{piece-most, piece-of}
 use Rattle.log.proofs.Listed.{listed-small}
 use Rattle.desk.specs.Choices.{mode-of, tally-asked}
-use Rattle.desk.specs.Handed.{last-line, list-answer, refusal-answer, log-piece, Lists}
+use Rattle.desk.specs.Handed.{last-line, list-answer, refusal-answer, log-piece, Lists, Holds}
 
 -- a page for every text of a call with room for 10,240 records, and for every piece of a log
 pub page-enough : (answer page : List ℕ) → length answer ≡ width * 10240 → length page ≡ 11 * (width * 10240) + piece-most
-    → (11 * length answer + piece-most ≤ length page) × (length page ≤ 18446744073709551614)
+    → Holds page answer
 page-enough answer page a p = (omega arith, omega arith)
 
 -- the smaller of two is at most the second
@@ -40,9 +40,9 @@ pub list-handed : (choices : ℕ) (t work room out : List ℕ) (asked : Bool) (m
     → (r : ℕ) (out′ work′ room′ : List ℕ) → record { count = r; page = out′; work = work′; room = room′ } ≡ text-call asked mode t work room out
     → r ≤ 11 * length room + 400 → length work′ ≡ length work → length room′ ≡ length room
     → {out″ : List ℕ} {r′ : ℕ} → Wrote out′ r out″ r′ 3 (λ rest. last-line ++ rest)
-    → 11 * length room + piece-most ≤ length out → length out ≤ 18446744073709551614 → take r′ out″ ≡ list-answer choices t work′ room′
-list-handed choices t work room out asked mode e f r out′ work′ room′ call most w o p h m =
-    text-ended asked mode t work room out r out′ work′ room′ call most w o last-line p (omega arith) (omega arith)
+    → Holds out room → take r′ out″ ≡ list-answer choices t work′ room′
+list-handed choices t work room out asked mode e f r out′ work′ room′ call most w o p h =
+    text-ended asked mode t work room out r out′ work′ room′ call most w o last-line p (omega (arith, h .0)) (omega (arith, h .0, h .1))
     ∙ ap₂ (λ (a : Bool) (b : Mode). text-of a b t work′ room′ ++ last-line) e f
 
 -- ---- a refusal

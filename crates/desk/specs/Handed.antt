@@ -1,5 +1,5 @@
 -- What is handed to a write call: a list's text, a refusal's, a piece of a log. Assumes nothing.
-use Prim.Native.Nat.{ℕ, _*_, _≤_}
+use Prim.Native.Nat.{ℕ, _+_, _*_, _≤_}
 use mathlib.Core.Path.{_≡_}
 use mathlib.Core.List.{List, _++_}
 use lib.ListN.{length}
@@ -10,7 +10,7 @@ use Rattle.rules.specs.Joined.{lint-list, tally-of}
 use Rattle.rules.specs.Afterwards.{records-in}
 use Rattle.rules.specs.declared.Refusal.{Refusal}
 use Rattle.text.specs.Text.{text-of, refused}
-use Rattle.log.specs.Pieces.{Small, piece-of}
+use Rattle.log.specs.Pieces.{Small, piece-of, piece-most}
 use Rattle.desk.specs.Choices.{mode-of, tally-asked}
 
 -- the last line of an answer
@@ -34,3 +34,7 @@ pub record Lists (mode : Mode) (t list : List ℕ) (n : ℕ) (tally : List ℕ) 
   pub enough : width * n ≤ length list
   pub whole : records-in n list ≡ lint-list mode t
   pub counts : tally ≡ tally-of (lint-list mode t)
+
+-- a page has room for every text of a call with this answer room, and for every piece of a log
+abbrev pub Holds : List ℕ → List ℕ → Type 0
+Holds page answer = (11 * length answer + piece-most ≤ length page) × (length page ≤ 18446744073709551614)

@@ -1,10 +1,10 @@
 // Answers, each ended by a line `--`. Each function tells whether the next request is to be read.
-ghost use Prim.Native.Nat.{_+_, _*_, _≤_, min};
+ghost use Prim.Native.Nat.{_+_, _≤_, min};
 ghost use mathlib.Core.Path.{_≡_};
 ghost use lib.ListN.{length};
 ghost use Rattle.log.specs.Pieces.{Starts, piece-most};
 ghost use Rattle.desk.specs.Choices.{mode-of};
-ghost use Rattle.desk.specs.Handed.{list-answer, refusal-answer, log-piece, Lists};
+ghost use Rattle.desk.specs.Handed.{list-answer, refusal-answer, log-piece, Lists, Holds};
 use crate::reading::ALL;
 use crate::reading::Rooms;
 use libc::STDERR_FILENO;
@@ -68,7 +68,7 @@ fn refused(page: &mut [u8], why: Refusal) -> bool
 }
 
 fn list(t: &[u8], choices: usize, work: &mut [u16], answer: &mut [u32], page: &mut [u8]) -> bool
-    requires { ⌜ (11 * length (now answer) + piece-most ≤ length (now page)) × (length (now page) ≤ 18446744073709551614) ⌝ }
+    requires { ⌜ Holds (now page) (now answer) ⌝ }
 {
     let mode = crate::choices::mode(choices);
     let a = text::text(t, mode, work, answer, crate::choices::tally(choices), page);
@@ -181,7 +181,7 @@ pub fn serve(
     answer: &mut [u32],
     page: &mut [u8],
 ) -> bool
-    requires { ⌜ (11 * length (now answer) + piece-most ≤ length (now page)) × (length (now page) ≤ 18446744073709551614) ⌝ }
+    requires { ⌜ Holds (now page) (now answer) ⌝ }
 {
     let w = least(rooms.work, work.len());
     let r = least(rooms.answer, answer.len());

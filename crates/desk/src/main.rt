@@ -1,8 +1,6 @@
 // The desk's program: answers the requests on standard input one after the other, each as soon as it is read; docs/DESK.md has the
-// framing. No contract can say what is read or written; what is handed to a write is text's or log's, as their contracts promise it.
-ghost use Prim.Native.Nat.{_+_, _*_, _≤_};
-ghost use lib.ListN.{length};
-ghost use Rattle.log.specs.Pieces.{piece-most};
+// framing. No contract can say what is read or written; what a write call is handed of a tree is required where it is handed (answers.rt).
+ghost use Rattle.desk.specs.Handed.{Holds};
 use crate::answers::ANSWER;
 use crate::answers::PAGE;
 use crate::answers::least;
@@ -47,7 +45,7 @@ fn asked(
     answer: &mut [u32],
     page: &mut [u8],
 ) -> bool
-    requires { ⌜ (11 * length (now answer) + piece-most ≤ length (now page)) × (length (now page) ≤ 18446744073709551614) ⌝ }
+    requires { ⌜ Holds (now page) (now answer) ⌝ }
 {
     let rooms = crate::reading::sizes(choices);
     let got = crate::reading::inputs(bytes, choices);
@@ -70,7 +68,7 @@ fn over() -> bool {
 
 // The next request, if there is one more.
 fn next(bytes: &mut [u8], work: &mut [u16], answer: &mut [u32], page: &mut [u8]) -> bool
-    requires { ⌜ (11 * length (now answer) + piece-most ≤ length (now page)) × (length (now page) ≤ 18446744073709551614) ⌝ }
+    requires { ⌜ Holds (now page) (now answer) ⌝ }
 {
     let w = crate::reading::next();
     match w {
@@ -82,7 +80,7 @@ fn next(bytes: &mut [u8], work: &mut [u16], answer: &mut [u32], page: &mut [u8])
 
 // One request after the other.
 fn requests(bytes: &mut [u8], work: &mut [u16], answer: &mut [u32], page: &mut [u8])
-    requires { ⌜ (11 * length (now answer) + piece-most ≤ length (now page)) × (length (now page) ≤ 18446744073709551614) ⌝ }
+    requires { ⌜ Holds (now page) (now answer) ⌝ }
 {
     let mut left: usize = 18446744073709551615;
     while 0 < left {

@@ -34,7 +34,7 @@ hand-list-requires c κs =
     let call = c .before .before .before .before .before .before .before .before .before .before .before .before .before .before .text in
     let a = c .before .before .before .before .before .before .before .before .before .before .before .before .before .before .before .before .before .before .before .before .before .before .before .before .args in
     list-handed (a .choices) (a .t .now) (a .work .now) (a .answer .now) (a .page .now) (c .before .before .before .before .before .before .before .before .before .before .before .before .before .before .before .before .tally .result) (c .before .before .before .before .before .before .before .before .before .before .before .before .before .before .before .before .before .before .before .mode .result) (c .before .before .before .before .before .before .before .before .before .before .before .before .before .before .before .before .tally .ensures) (c .before .before .before .before .before .before .before .before .before .before .before .before .before .before .before .before .before .before .before .mode .ensures)
-    (call .result) (call .last .1 .1 .1 .1 .1 .0) (call .last .1 .1 .0) (call .last .1 .1 .1 .0) (call .ensures .0) (call .ensures .1) (search needs) (search needs) (c .before .before .before .before .before .raw .ensures) (c .before .before .before .before .before .before .before .before .before .before .before .before .before .before .before .before .before .before .before .before .before .before .before .before .pre .0) (c .before .before .before .before .before .before .before .before .before .before .before .before .before .before .before .before .before .before .before .before .before .before .before .before .pre .1)
+    (call .result) (call .last .1 .1 .1 .1 .1 .0) (call .last .1 .1 .0) (call .last .1 .1 .1 .0) (call .ensures .0) (call .ensures .1) (search needs) (search needs) (c .before .before .before .before .before .raw .ensures) (c .before .before .before .before .before .before .before .before .before .before .before .before .before .before .before .before .before .before .before .before .before .before .before .before .pre)
 
 same-length : tie.Need-same-length
 same-length c = search needs
