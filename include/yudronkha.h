@@ -166,8 +166,8 @@ size_t yudronkha_lint_strict(const uint8_t *tree, size_t tree_len, uint16_t *wor
  *                     YUDRONKHA_SARIF_REPORT_WORDS words; with fewer the words that fit are written.
  *
  * Returns YUDRONKHA_LISTED or a refusal's number, 1 to 12; nothing else. For 11 report[0] is the records needed and for 12 the bytes
- * needed. With room for n records and YUDRONKHA_LOG_BYTES(n) bytes a valid tree of at most n records, the number that yudronkha_lint
- * tells, is never refused: for YUDRONKHA_RECORDS_MOST records that is 22,754,897 bytes.
+ * needed. With YUDRONKHA_WORK_WORDS of work room, room for n records and YUDRONKHA_LOG_BYTES(n) bytes a valid tree of at most n
+ * records, the number that yudronkha_lint tells, is never refused: for YUDRONKHA_RECORDS_MOST records that is 22,754,897 bytes.
  *
  * What the caller owes is the same, with YUDRONKHA_SARIF_STACK_BYTES of stack; output may have any alignment. */
 size_t yudronkha_sarif(const uint8_t *tree, size_t tree_len, uint16_t *work, size_t work_len, uint32_t *answer,

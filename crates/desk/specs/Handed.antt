@@ -17,7 +17,7 @@ use Rattle.desk.specs.Choices.{mode-of, tally-asked}
 abbrev pub last-line : List ℕ
 last-line = ascii "--\n"
 
--- the answer to a request for the list of t, lent this work room and this answer room
+-- the answer to a request for the list of t, lent rooms as long as these
 abbrev pub list-answer : ℕ → List ℕ → List ℕ → List ℕ → List ℕ
 list-answer choices t work room = text-of (tally-asked choices) (mode-of choices) t work room ++ last-line
 

@@ -37,7 +37,7 @@ pub fn least(a: usize, b: usize) -> usize
     b
 }
 
-// ---- what is handed to a write call, and nothing else of a tree that is listed, logged or refused
+// ---- bytes handed to a write call: a list, the line of a refusal, a piece of a log
 
 fn hand_list(s: &[u8], choices: usize, t: &[u8], work: &[u16], answer: &[u32]) -> bool
     requires { ⌜ now s ≡ list-answer choices (now t) (now work) (now answer) ⌝ }

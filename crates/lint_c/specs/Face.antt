@@ -37,7 +37,7 @@ abbrev pub numbered : EvalSeverity → ℕ
 numbered Disabled = 0
 numbered Warning = 1
 
--- of any number: what is no code is a warning's, as 01 has it
+-- of any number: 01 speaks of codes alone, and here what is none is a warning's
 abbrev pub severity-number : ℕ → ℕ
 severity-number code = numbered (severity-of (disabled code))
 

@@ -22,7 +22,7 @@ fn say(s: &[u8]) {
     }
 }
 
-// Nothing is written of a tree but the text of the joined call on it, lent such rooms.
+// Handed to the write call: the text of the joined call on t, lent rooms as long as these.
 fn hand(s: &[u8], t: &[u8], work: &[u16], answer: &[u32])
     requires { ⌜ now s ≡ text-of false Ordinary (now t) (now work) (now answer) ⌝ }
 {
