@@ -5,6 +5,7 @@ A request is numbers of 32 bits, little-endian: the choices; with ROOMS four siz
 second one. An answer is lines, then a line `--`.
 """
 import pathlib
+import re
 import struct
 import subprocess
 
@@ -15,7 +16,8 @@ LONGEST = 11 + 1024 * 16 + 512 * (3 + 255) + 512 * 2
 LISTINGS = ROOT / "examples" / "listings.txt"
 HEAD = """\
 # Listings of the sample trees and of the tree of examples/log.py: by the Rust, and with --strict by document 01's rules as
-# compare/ has them, since the Rust has no strict keys. Written by `examples/check --write`.
+# compare/ has them, since the Rust has no strict keys. The reasons of equal keys (the last two numbers of code 16) are the rules'
+# too. Written by `examples/check --write`.
 """
 
 
@@ -55,6 +57,11 @@ def files(path):
 
 def lists(path):
     return answers(path.read_bytes())
+
+
+def without_reasons(listing):
+    """A listing, of code 16 the first six numbers: the Rust, and lists of document 01 alone, say no more of it."""
+    return re.sub(rb"^(16(?: \d+){5}) \d+ \d+$", rb"\1", listing, flags=re.MULTILINE)
 
 
 # examples/listings.txt: a line `$ NAME` or `$ --strict NAME`, then the listing.

@@ -1,15 +1,17 @@
 """A list as a SARIF log, after document 02, §1, and a tree whose log has all that a log can have.
 
-This shares nothing with the Rattle but the names and severities of tools/codes.txt. examples/check, compare/sarif and the
+This shares nothing with the Rattle but the names, severities and reasons of tools/codes.txt. examples/check, compare/sarif and the
 gate (tools/desk-cases.py) hold the logs of the program desk against it, byte for byte.
 """
 import codecs
 import pathlib
+import re
 import struct
 
 import export
 
 ROOT = pathlib.Path(__file__).resolve().parent.parent
+TABLE = (ROOT / "tools" / "codes.txt").read_text()
 SCHEMA = "https://docs.oasis-open.org/sarif/sarif/v2.1.0/errata01/os/schemas/sarif-schema-2.1.0.json"
 PHRASES = {
     1: "Unused load of",
@@ -30,6 +32,9 @@ PHRASES = {
     16: "Duplicate dictionary key",
     17: "Statement that does nothing or fails: variable",
 }
+# Why two keys are equal, by the number that stands in the place of a third span; their code alone has one.
+REASONS = {int(number): words for number, words in re.findall(r"^reason (\d+)\n  says: (.*)$", TABLE, re.MULTILINE)}
+EQUAL_KEYS = 16
 # What a message says of a value before it, by the value's kind.
 KINDS = (" ", " string ", " bytes ", " integer 0x", " float of bytes ")
 # Words for the second span, then for the third.
@@ -44,7 +49,7 @@ LEVELS = {"warning": "warning", "disabled": "none"}
 SORTS = {"warning": "fail", "none": "informational"}
 
 # Levels warning and none; second spans and a third; a string that would be a placeholder and a link outside an argument,
-# bytes, integers (0 has no bytes) and floats as keys; one pair of keys that only strict keys hold for equal.
+# bytes, integers (0 has no bytes) and floats as keys, equal for either reason; one pair that only strict keys hold for equal.
 SCRIPT = r"""# globals: print
 load("names.star", "sidereal")
 def odd(comet):
@@ -73,8 +78,7 @@ def sample():
 
 def codes():
     """Short name and severity of each code of tools/codes.txt."""
-    lines = (ROOT / "tools" / "codes.txt").read_text().splitlines()
-    heads = [line.split() for line in lines if line[:1].isdigit()]
+    heads = [line.split() for line in TABLE.splitlines() if line[:1].isdigit()]
     return {int(number): (name, severity) for number, name, severity in heads}
 
 
@@ -126,11 +130,17 @@ def rule(code, entry):
     return {"id": str(code), "name": entry[0], "defaultConfiguration": {"level": LEVELS[entry[1]]}}
 
 
-def message(code, value):
-    """The phrase of a code; of a value its kind stands in the text, and what it is is an argument."""
+def phrase(numbers):
+    """What a message says before the value of a record: the code's phrase, and of equal keys the reason."""
+    code, reason = numbers[0], numbers[6]
+    return PHRASES[code] + (f", {REASONS[reason]}:" if code == EQUAL_KEYS else "")
+
+
+def message(phrased, value):
+    """A phrase and a value, whose kind stands in the text; what it is is an argument."""
     if value is None:
-        return {"text": PHRASES[code], "arguments": []}
-    return {"text": PHRASES[code] + KINDS[value[0]] + "{0}", "arguments": [shown(value)]}
+        return {"text": phrased, "arguments": []}
+    return {"text": phrased + KINDS[value[0]] + "{0}", "arguments": [shown(value)]}
 
 
 def result(numbers, level, index, values):
@@ -142,7 +152,7 @@ def result(numbers, level, index, values):
         "locations": [location(begin, end)],
         "kind": SORTS[level],
         "level": level,
-        "message": message(code, None if value == export.NONE else values[value]),
+        "message": message(phrase(numbers), None if value == export.NONE else values[value]),
         "relatedLocations": [location(*at, says) for at, says in zip(spans, OTHERS.get(code, ()))],
     }
 

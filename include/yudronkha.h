@@ -29,10 +29,10 @@
 extern "C" {
 #endif
 
-/* Version 1.1.0 of this header, as major * 10000 + minor * 100 + patch. Major goes up where the layout of a call, a record or a
+/* Version 2.0.0 of this header, as major * 10000 + minor * 100 + patch. Major goes up where the layout of a call, a record or a
  * report changes, or a number gets another meaning, so that a program has to be changed; minor where a call, a code or a refusal
  * is added or a size below grows, so that it has to be compiled anew at most; patch with any other change. */
-#define YUDRONKHA_VERSION 10100
+#define YUDRONKHA_VERSION 20000
 
 /* Sizes, in elements of each room. */
 #define YUDRONKHA_TREE_BYTES_MOST 149515 /* no valid tree is longer; a longer one gets its refusal like any other bytes */
@@ -95,11 +95,12 @@ enum yudronkha_code {
     YUDRONKHA_INCOMPATIBLE_TYPE_CHECK = 14,    /* value: the type's name */
     YUDRONKHA_DUPLICATE_TOP_LEVEL_ASSIGN = 15, /* at the later name; value: the name; second: the name as first defined */
     /* dubious */
-    YUDRONKHA_DUPLICATE_KEY = 16,          /* at the previous equal key; value and second: the later key */
+    YUDRONKHA_DUPLICATE_KEY = 16,          /* at the previous equal key; value and second: the later key; no third, but a reason */
     YUDRONKHA_IDENTIFIER_AS_STATEMENT = 17 /* value: the name */
 };
 
-/* The words of a record, by position. A second or third span that a record doesn't have is 0 0. */
+/* The words of a record, by position. A second or third span that a record doesn't have is 0 0, but for code 16: its records have
+ * a reason and 0 in place of a third span, which are no place of the script. */
 enum yudronkha_word {
     YUDRONKHA_CODE = 0,
     YUDRONKHA_BEGIN = 1,
@@ -108,7 +109,14 @@ enum yudronkha_word {
     YUDRONKHA_SECOND_BEGIN = 4,
     YUDRONKHA_SECOND_END = 5,
     YUDRONKHA_THIRD_BEGIN = 6,
-    YUDRONKHA_THIRD_END = 7
+    YUDRONKHA_THIRD_END = 7,
+    YUDRONKHA_REASON = 6 /* code 16 alone */
+};
+
+/* Why the two keys of a record of code 16 are equal. No record has another reason. */
+enum yudronkha_reason {
+    YUDRONKHA_SAME_FORM = 1,  /* the same key again: one identifier, or literals of one kind and one value */
+    YUDRONKHA_SAME_NUMBER = 2 /* the same number in another form: an integer and a float */
 };
 
 /* The severity of a code. */

@@ -4,9 +4,9 @@
 Writes crates/desk/stdin and crates/desk/stdout, on which the gate runs the program desk: requests, and what must be answered.
 With --check it writes nothing, and says whether they are as it would write them. Exit status: 0, 1 they aren't, 2 wrong use.
 
-No answer comes from the program itself: lists are the Rust's (compare/recorded, examples/listings.txt) or, with strict keys,
-those of document 01's rules as compare/ has them; logs are written by examples/log.py from these lists; the rest is
-counted here.
+No answer comes from the program itself: lists are the Rust's (compare/recorded, examples/listings.txt), with the reasons of
+equal keys by document 01's rules as compare/ has them, or, with strict keys, those of the rules; logs are written by
+examples/log.py from these lists; the rest is counted here.
 """
 import pathlib
 import sys

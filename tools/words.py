@@ -1,4 +1,4 @@
-"""tools/codes.txt: what is said of each code, of each refusal, and of what is too long."""
+"""tools/codes.txt: what is said of each code, of each reason, of each refusal, and of what is too long."""
 import pathlib
 
 FOLDER = pathlib.Path(__file__).resolve().parent
@@ -14,6 +14,10 @@ class Entry:
     def says(self, **words):
         return self.texts["says"].format(**words)
 
+    def has_reason(self):
+        """Whether records of this code have a reason in place of a third span."""
+        return "{reason}" in self.texts["says"]
+
 
 def entries():
     for line in (FOLDER / "codes.txt").read_text(encoding="utf-8").splitlines():
@@ -28,14 +32,16 @@ def entries():
 
 
 class Words:
-    """All entries: codes and refusals by number."""
+    """All entries: codes, reasons and refusals by number."""
 
     def __init__(self):
-        self.codes, self.refusals = {}, {}
+        self.codes, self.reasons, self.refusals = {}, {}, {}
         for entry in list(entries()):
             first, number = entry.head[0], entry.head[1]
             if first == "refused":
                 self.refusals[int(number)] = entry
+            elif first == "reason":
+                self.reasons[int(number)] = entry
             elif first == "too":
                 self.too_long = entry
             else:

@@ -1,7 +1,7 @@
-//! The Rust beside another program that speaks document 01's listing, or beside
-//! lists already written; the smallest file that differs is shown.
+//! The Rust, or document 01's rules, beside another program that speaks 01's listing or
+//! beside lists already written; the smallest file that differs is shown.
 use crate::batch;
-use crate::listing::Source::{Rules, Rust};
+use crate::listing::{without_reasons, Source};
 use crate::reduce::reduced;
 use crate::rules::Mode;
 use crate::show::show;
@@ -10,6 +10,43 @@ use std::process::{Command, Stdio};
 
 /// The choice of strict keys in a request.
 const STRICT: u32 = 1;
+
+/// What lists are held against.
+#[derive(Clone, Copy)]
+pub struct Side {
+    source: Source,
+    /// Whether reasons count; else of code 16 the first six numbers do.
+    reasons: bool,
+}
+
+impl Side {
+    /// The Rust has no reasons.
+    pub const RUST: Side = Side { source: Source::Rust, reasons: false };
+
+    pub fn rules(mode: Mode, reasons: bool) -> Side {
+        Side { source: Source::Rules(mode), reasons }
+    }
+
+    pub fn name(self) -> &'static str {
+        match self.source {
+            Source::Rust => "the Rust",
+            Source::Rules(_) => "document 01's rules",
+        }
+    }
+
+    /// Its own list, with room for any.
+    pub fn list(self, file: &[u8]) -> String {
+        self.source.answer(file, None)
+    }
+
+    pub fn agrees(self, own: &str, other: &str) -> bool {
+        if self.reasons {
+            own == other
+        } else {
+            without_reasons(own) == without_reasons(other)
+        }
+    }
+}
 
 /// What a program takes on standard input.
 #[derive(Clone, Copy, PartialEq)]
@@ -78,11 +115,7 @@ impl Program {
         }
     }
 
-    fn wanted(&self, file: &[u8]) -> String {
-        let source = match self.keys {
-            Mode::Ordinary => Rust,
-            Mode::Strict => Rules(Mode::Strict),
-        };
+    fn wanted(&self, source: Source, file: &[u8]) -> String {
         match self.takes {
             Takes::File => source.listing(file, None),
             Takes::Files => source.answer(file, None),
@@ -91,10 +124,11 @@ impl Program {
     }
 }
 
-/// What differs, counted, with the smallest.
+/// What differs from a side, counted, with the smallest.
 pub struct Differences {
-    pub files: usize,
-    pub count: usize,
+    side: Side,
+    files: usize,
+    count: usize,
     smallest: Option<(Vec<u8>, String, String)>,
 }
 
@@ -105,61 +139,75 @@ pub fn measure(file: &[u8]) -> (usize, usize) {
 }
 
 impl Differences {
-    pub fn new() -> Differences {
-        Differences { files: 0, count: 0, smallest: None }
+    fn new(side: Side) -> Differences {
+        Differences { side, files: 0, count: 0, smallest: None }
     }
 
-    pub fn add(&mut self, file: &[u8], rust: &str, other: &str) {
+    fn add(&mut self, file: &[u8], own: &str, other: &str) {
         self.files += 1;
-        if rust == other {
+        if self.side.agrees(own, other) {
             return;
         }
         self.count += 1;
         let smaller = |s: &(Vec<u8>, String, String)| measure(file) < measure(&s.0);
         if self.smallest.as_ref().is_none_or(smaller) {
-            self.smallest = Some((file.to_vec(), rust.to_owned(), other.to_owned()));
+            self.smallest = Some((file.to_vec(), own.to_owned(), other.to_owned()));
         }
     }
 
+    pub fn none(&self) -> bool {
+        self.count == 0
+    }
+
     pub fn report(&self) -> String {
-        let mut out = format!("{} files, {} differ\n", self.files, self.count);
-        if let Some((file, rust, other)) = &self.smallest {
-            out += &format!("the smallest:\n{}the Rust:\n{rust}the other:\n{other}", show(file));
+        let name = self.side.name();
+        let mut out = format!("{name}: {} files, {} differ\n", self.files, self.count);
+        if let Some((file, own, other)) = &self.smallest {
+            out += &format!("the smallest:\n{}{name}:\n{own}the other:\n{other}", show(file));
         }
         out
     }
 
     /// Cuts the smallest down while the two still differ on it.
-    pub fn reduce(&mut self, program: &Program) -> Result<(), String> {
+    fn reduce(&mut self, program: &Program) -> Result<(), String> {
         let Some((file, ..)) = self.smallest.take() else { return Ok(()) };
+        let side = self.side;
         let file = reduced(file, |files| {
             let lists = program.lists(files)?;
-            Ok(files.iter().zip(lists).map(|(f, l)| program.wanted(f) != l).collect())
+            let differ = |(f, l): (&Vec<u8>, String)| !side.agrees(&program.wanted(side.source, f), &l);
+            Ok(files.iter().zip(lists).map(differ).collect())
         })?;
         let other = program.lists(std::slice::from_ref(&file))?.remove(0);
-        self.smallest = Some((file.clone(), program.wanted(&file), other));
+        self.smallest = Some((file.clone(), program.wanted(side.source, &file), other));
         Ok(())
     }
 }
 
-/// The Rust beside a program.
-pub fn against(program: &Program, files: &[Vec<u8>], reduce: bool) -> Result<Differences, String> {
-    let mut found = Differences::new();
-    for (file, list) in files.iter().zip(program.lists(files)?) {
-        found.add(file, &program.wanted(file), &list);
-    }
-    if reduce {
-        found.reduce(program)?;
-    }
-    Ok(found)
+/// Each side beside a program, from one run of it over the files.
+pub fn against(
+    program: &Program,
+    sides: &[Side],
+    files: &[Vec<u8>],
+    reduce: bool,
+) -> Result<Vec<Differences>, String> {
+    let lists = program.lists(files)?;
+    let beside = |side: &Side| {
+        let mut found = Differences::new(*side);
+        files.iter().zip(&lists).for_each(|(f, l)| found.add(f, &program.wanted(side.source, f), l));
+        if reduce {
+            found.reduce(program)?;
+        }
+        Ok(found)
+    };
+    sides.iter().map(beside).collect()
 }
 
-/// The Rust beside lists.
-pub fn with_lists(files: &[Vec<u8>], lists: &[String]) -> Result<Differences, String> {
-    if files.len() != lists.len() {
-        return Err(format!("{} files but {} lists", files.len(), lists.len()));
-    }
-    let mut found = Differences::new();
-    files.iter().zip(lists).for_each(|(f, l)| found.add(f, &Rust.answer(f, None), l));
-    Ok(found)
+/// Each side beside the files' lists.
+pub fn with_lists(sides: &[Side], files: &[Vec<u8>], lists: &[String]) -> Vec<Differences> {
+    let beside = |side: &Side| {
+        let mut found = Differences::new(*side);
+        files.iter().zip(lists).for_each(|(f, l)| found.add(f, &side.list(f), l));
+        found
+    };
+    sides.iter().map(beside).collect()
 }

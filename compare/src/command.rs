@@ -1,10 +1,11 @@
 //! The command line.
-use crate::against::{against, with_lists, Program, Takes};
+use crate::against::{against, with_lists, Differences, Program, Side, Takes};
 use crate::batch::{self, input, print, print_all};
 use crate::coverage::Coverage;
 use crate::judge::judge;
 use crate::listing::{Source, PASSES};
 use crate::make::Plan;
+use crate::noticed::noticed;
 use crate::recorded::{self, Limits};
 use crate::rules::Mode;
 use crate::show::show;
@@ -21,10 +22,14 @@ const USAGE: &str = "usage:
   compare sized SORT                  trees of one sort at growing numbers of nodes, each after its length;
                                       SORT: straight, loops, dicts, names
   compare coverage FILES..            what files show
-  compare lists FILES LISTS           the Rust beside lists written before
-  compare against [--each | --desk] [--strict] [--chunk N] [--as-found] FILES.. -- PROGRAM ..
-                                      the Rust beside a program; strict keys: document 01's rules beside it.
-                                      PROGRAM takes files as --batch has them; --each: one file a start; --desk: requests
+  compare lists [--rules | --strict] [--no-reasons] FILES LISTS
+                                      the Rust beside lists written before; --rules: and document 01's rules,
+                                      strict keys: these alone. Of code 16 the Rust says the first six numbers,
+                                      the rules all eight; --no-reasons: six, for lists of 01 alone
+  compare noticed FILES LISTS         whether the Rust and the rules would notice a wrong number in right lists
+  compare against [--each | --desk] [--rules | --strict] [--chunk N] [--as-found] FILES.. -- PROGRAM ..
+                                      the same beside a program, which takes files as --batch has them;
+                                      --each: one file a start; --desk: requests
   compare record [--seed S] [--count N] [--bytes N] FOLDER
                                       chooses and writes the recorded list
 P: names, flow, incompatible, dubious. FILES hold many files, each after its length.";
@@ -73,6 +78,25 @@ impl Words {
         self.flags.iter().rev().find(|f| f.0 == flag).and_then(|f| f.1.as_deref())
     }
 
+    fn mode(&self) -> Mode {
+        if self.has("--strict") {
+            Mode::Strict
+        } else {
+            Mode::Ordinary
+        }
+    }
+
+    /// What lists are held against; the Rust has no strict keys.
+    fn sides(&self) -> Result<Vec<Side>, String> {
+        let rules = Side::rules(self.mode(), !self.has("--no-reasons"));
+        match (self.has("--rules"), self.has("--strict")) {
+            (false, false) => Ok(vec![Side::RUST]),
+            (true, false) => Ok(vec![Side::RUST, rules]),
+            (false, true) => Ok(vec![rules]),
+            (true, true) => Err(USAGE.to_owned()),
+        }
+    }
+
     /// Every file of the named heaps.
     fn files(&self) -> Result<Vec<Vec<u8>>, String> {
         let mut out = Vec::new();
@@ -90,7 +114,7 @@ pub fn run(words: &[String]) -> Result<bool, String> {
         "list" => list(Words::new(words, &["--pass"], &["--batch"])?, Source::Rust),
         "rules" => {
             let words = Words::new(words, &["--pass"], &["--batch", "--strict"])?;
-            let mode = if words.has("--strict") { Mode::Strict } else { Mode::Ordinary };
+            let mode = words.mode();
             list(words, Source::Rules(mode))
         }
         "judge" => judged(Words::new(words, &[], &["--batch"])?),
@@ -103,10 +127,12 @@ pub fn run(words: &[String]) -> Result<bool, String> {
         }
         "sized" => sized(Words::new(words, &[], &[])?),
         "coverage" => coverage(Words::new(words, &[], &[])?),
-        "lists" => lists(Words::new(words, &[], &[])?),
+        "lists" => lists(Words::new(words, &[], &["--rules", "--strict", "--no-reasons"])?),
+        "noticed" => wrong_numbers(Words::new(words, &[], &[])?),
         "record" => record(Words::new(words, &["--seed", "--count", "--bytes"], &[])?),
         "against" => {
-            beside(Words::new(words, &["--chunk"], &["--each", "--desk", "--strict", "--as-found"])?)
+            let plain = ["--each", "--desk", "--rules", "--strict", "--as-found"];
+            beside(Words::new(words, &["--chunk"], &plain)?)
         }
         _ => Err(USAGE.to_owned()),
     }
@@ -183,12 +209,32 @@ fn coverage(words: Words) -> Result<bool, String> {
     Ok(true)
 }
 
-fn lists(words: Words) -> Result<bool, String> {
+/// Whether no side found a difference.
+fn reported(found: Vec<Differences>) -> bool {
+    found.iter().for_each(|side| print(side.report().as_bytes()));
+    found.iter().all(Differences::none)
+}
+
+/// The files of a heap, and their lists.
+fn listed(words: &Words) -> Result<(Vec<Vec<u8>>, Vec<String>), String> {
     let [files, lists] = words.rest.as_slice() else { return Err(USAGE.to_owned()) };
     let (files, lists) = (batch::read(Path::new(files))?, batch::read_lists(Path::new(lists))?);
-    let found = with_lists(&files, &lists)?;
-    print(found.report().as_bytes());
-    Ok(found.count == 0)
+    if files.len() != lists.len() {
+        return Err(format!("{} files but {} lists", files.len(), lists.len()));
+    }
+    Ok((files, lists))
+}
+
+fn lists(words: Words) -> Result<bool, String> {
+    let (files, lists) = listed(&words)?;
+    Ok(reported(with_lists(&words.sides()?, &files, &lists)))
+}
+
+fn wrong_numbers(words: Words) -> Result<bool, String> {
+    let (files, lists) = listed(&words)?;
+    let (right, report) = noticed(&files, &lists);
+    print(report.as_bytes());
+    Ok(right)
 }
 
 fn beside(words: Words) -> Result<bool, String> {
@@ -196,17 +242,14 @@ fn beside(words: Words) -> Result<bool, String> {
         return Err(USAGE.to_owned());
     }
     let chunk = words.number("--chunk", 1000)?.max(1) as usize;
-    let keys = if words.has("--strict") { Mode::Strict } else { Mode::Ordinary };
     let takes = match (words.has("--each"), words.has("--desk")) {
         (false, false) => Takes::Files,
         (true, false) => Takes::File,
         (false, true) => Takes::Requests,
         (true, true) => return Err(USAGE.to_owned()),
     };
-    let program = Program { words: words.after.clone(), takes, keys, chunk };
-    let found = against(&program, &words.files()?, !words.has("--as-found"))?;
-    print(found.report().as_bytes());
-    Ok(found.count == 0)
+    let program = Program { words: words.after.clone(), takes, keys: words.mode(), chunk };
+    Ok(reported(against(&program, &words.sides()?, &words.files()?, !words.has("--as-found"))?))
 }
 
 fn record(words: Words) -> Result<bool, String> {

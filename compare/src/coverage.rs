@@ -2,6 +2,7 @@
 use crate::judge::judge;
 use crate::kinds::{self, KINDS};
 use crate::listing::records;
+use crate::rules::{self, Mode};
 use crate::tree::{Node, Tree};
 use std::collections::{BTreeMap, BTreeSet};
 use std::fmt::Write;
@@ -39,6 +40,7 @@ pub struct Coverage {
     valid: usize,
     panics: usize,
     codes: BTreeMap<u32, usize>,
+    reasons: BTreeMap<u32, usize>,
     kinds: BTreeMap<u8, usize>,
     roles: BTreeMap<u8, usize>,
     refusals: BTreeMap<u32, usize>,
@@ -75,6 +77,9 @@ impl Coverage {
                 codes.into_iter().for_each(|c| *self.codes.entry(c).or_default() += 1);
             }
         }
+        let [.., dubious] = rules::records(bytes, Mode::Ordinary);
+        let reasons: BTreeSet<u32> = dubious.iter().filter(|r| r[0] == 16).map(|r| r[6]).collect();
+        reasons.into_iter().for_each(|c| *self.reasons.entry(c).or_default() += 1);
     }
 
     fn limits(&mut self, tree: &Tree) {
@@ -99,6 +104,7 @@ impl Coverage {
         let mut line = |name: &str, text: String| writeln!(out, "{name}: {text}").unwrap();
         line("files", format!("{} ({} valid, the Rust panicked on {})", self.files, self.valid, self.panics));
         line("trees by code", counted((1..=17).map(|c| (c, self.codes.get(&c)))));
+        line("trees by reason of equal keys", counted((1..=2).map(|c| (c, self.reasons.get(&c)))));
         line("trees by kind", counted(KINDS.iter().map(|k| (k.kind, self.kinds.get(&k.kind)))));
         line("trees by role", counted((0..=8).map(|c| (c, self.roles.get(&c)))));
         line("files by refusal", counted((1..=9).map(|c| (c, self.refusals.get(&c)))));

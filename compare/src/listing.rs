@@ -44,12 +44,24 @@ fn lines(records: &[Record]) -> String {
     out
 }
 
+/// Of a record of code 16 the six numbers before the reason; any other line as it is.
+fn without_reason(line: &str) -> String {
+    let words: Vec<&str> = line.split(' ').collect();
+    let kept = if words[0] == "16" && words.len() == 8 { 6 } else { words.len() };
+    words[..kept].join(" ")
+}
+
+/// A listing without the reasons of equal keys.
+pub fn without_reasons(list: &str) -> String {
+    list.split('\n').map(without_reason).collect::<Vec<_>>().join("\n")
+}
+
 /// Who says what the records of a valid file are.
 #[derive(Clone, Copy)]
 pub enum Source {
-    /// The four files, unchanged; strict keys are not theirs.
+    /// The four files, unchanged; strict keys and reasons are not theirs.
     Rust,
-    /// Document 01 as rules.rs reads it.
+    /// Document 01 as rules.rs reads it, with the reasons of 02.
     Rules(Mode),
 }
 

@@ -11,6 +11,7 @@ mod judge;
 mod kinds;
 mod listing;
 mod make;
+mod noticed;
 mod random;
 mod recorded;
 mod reduce;

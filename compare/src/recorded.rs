@@ -1,11 +1,13 @@
 //! Chooses the recorded list: files made by hand, then generated ones, each time
 //! the one that shows most that is new for its bytes.
+use crate::against::Side;
 use crate::batch;
 use crate::features::{features, Features};
 use crate::hand::{self, Made};
 use crate::judge::judge;
-use crate::listing::Source::Rust;
+use crate::listing::Source::{Rules, Rust};
 use crate::make::Plan;
+use crate::rules::Mode;
 use std::collections::HashMap;
 use std::path::Path;
 
@@ -106,11 +108,20 @@ fn choose(limits: &Limits) -> Vec<Made> {
     out
 }
 
+/// The Rust's list with the reasons that it doesn't have, by the rules, which must agree on all else.
+fn whole_list(made: &Made) -> Result<String, String> {
+    let [rust, rules] = [Rust, Rules(Mode::Ordinary)].map(|source| source.answer(&made.file, None));
+    if !Side::RUST.agrees(&rust, &rules) {
+        return Err(format!("{}: the Rust and document 01's rules differ:\n{rust}and\n{rules}", made.how));
+    }
+    Ok(rules + "--\n")
+}
+
 /// Writes recorded.bin, recorded.list and recorded.txt.
 pub fn write(limits: &Limits, folder: &Path) -> Result<String, String> {
     let all = choose(limits);
     let files: Vec<Vec<u8>> = all.iter().map(|m| m.file.clone()).collect();
-    let lists: String = files.iter().map(|f| Rust.answer(f, None) + "--\n").collect();
+    let lists: String = all.iter().map(whole_list).collect::<Result<_, _>>()?;
     let how: String = all.iter().enumerate().map(|(i, m)| format!("{i} {}\n", m.how)).collect();
     let put = |name: &str, bytes: &[u8]| {
         std::fs::write(folder.join(name), bytes).map_err(|e| format!("{name}: {e}"))

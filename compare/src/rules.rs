@@ -1,5 +1,6 @@
-//! Document 01's rules as 01 words them, and the only opinion here on strict keys. Its
-//! author had read the Rust, so it is a second wording and not a blind one.
+//! Document 01's rules as 01 words them, and the only opinion here on strict keys and on
+//! why two keys are equal (02, §11). Its author had read the Rust, so it is a second
+//! wording and not a blind one.
 mod flow;
 mod keys;
 mod names;

@@ -101,8 +101,16 @@ static size_t report_word(const struct call *c, size_t k)
     return k == YUDRONKHA_NO_EFFECT || (k == YUDRONKHA_DUPLICATE_KEY && c->strict);
 }
 
-/* Every word of work room and report, every byte of the output room, the answer room past the records and the first record's
- * code, and the words behind them. */
+/* The record of strict keys comes second. */
+static int reason_given(void)
+{
+    const uint32_t *record = answer + YUDRONKHA_RECORD_WORDS;
+    return record[YUDRONKHA_CODE] == YUDRONKHA_DUPLICATE_KEY && record[YUDRONKHA_REASON] == YUDRONKHA_SAME_NUMBER &&
+           record[YUDRONKHA_THIRD_END] == 0;
+}
+
+/* Every word of work room and report, every byte of the output room, the answer room past the records, the first record's code and
+ * the second's reason, and the words behind them. */
 static int as_said(const struct call *c)
 {
     int listed = c->number == YUDRONKHA_LISTED;
@@ -121,6 +129,8 @@ static int as_said(const struct call *c)
     for (size_t k = bytes; k < COUNT(output); k++)
         if (output[k] != PATTERN)
             return 0;
+    if (listed && c->strict && !reason_given())
+        return 0;
     return memcmp(output, logs[c->strict], bytes) == 0 && (records == 0 || answer[YUDRONKHA_CODE] == YUDRONKHA_NO_EFFECT);
 }
 

@@ -100,6 +100,7 @@ fn types_and_keys() -> Vec<Made> {
         ellipsis(),
         ellipsis(),
     ];
+    let reasons = vec![int(1), float(1.0), float(1.0), id("a"), int(1), int(1), float(0.0), int(0), id("a")];
     let nested = Node::new(
         29,
         0,
@@ -117,6 +118,7 @@ fn types_and_keys() -> Vec<Made> {
         made("type checks that are none, and nested ones", list(odd)),
         made("keys: numbers in both forms around the bounds", list(vec![dict_of(numbers)])),
         made("keys: one spelling in each form", list(vec![dict_of(forms)])),
+        made("keys: why two are equal goes by the previous one", list(vec![dict_of(reasons)])),
         made("keys: a dict before the dicts inside it", list(vec![say(nested)])),
         made(
             "identifiers as statements, below each statement",

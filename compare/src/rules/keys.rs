@@ -1,5 +1,5 @@
 //! Dubious (003): equal keys, and identifiers as statements.
-use super::view::{record, View, NO_SPAN};
+use super::view::{record, Span, View, NO_SPAN};
 use originals::Record;
 use std::collections::HashMap;
 
@@ -10,7 +10,11 @@ pub enum Mode {
     Strict,
 }
 
-/// Equal keys have equal forms.
+/// Why two keys are equal (02, §11): the first word of the third span, the second being 0.
+const SAME_FORM: Span = (1, 0);
+const SAME_NUMBER: Span = (2, 0);
+
+/// What equal keys have in common.
 #[derive(PartialEq, Eq, Hash)]
 enum Key {
     Whole(u64),
@@ -50,13 +54,24 @@ pub fn list(view: &View, mode: Mode) -> Vec<Record> {
     out
 }
 
+/// Of two equal keys: one kind and the same bytes are one form, else they are an integer and a float.
+fn reason(view: &View, before: usize, later: usize) -> Span {
+    let form = |i| view.table(view.value(i));
+    if form(before) == form(later) {
+        SAME_FORM
+    } else {
+        SAME_NUMBER
+    }
+}
+
 fn keys(view: &View, mode: Mode, i: usize, out: &mut Vec<Record>) {
     if view.kind(i) == 29 {
         let mut previous = HashMap::new();
         for later in view.with_role(i, 8) {
             let Some(key) = mode.key(view, later) else { continue };
             if let Some(before) = previous.insert(key, later) {
-                out.push(record(16, view.span(before), view.value(later), view.span(later), NO_SPAN));
+                let third = reason(view, before, later);
+                out.push(record(16, view.span(before), view.value(later), view.span(later), third));
             }
         }
     }

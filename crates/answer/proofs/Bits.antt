@@ -1,12 +1,9 @@
--- Small laws of tests and lists. Assumes nothing.
-use Prim.Native.Nat.{ℕ, suc, _-_, _≤_}
-use native.Mathlib.Omega.{arith}
+-- Small laws of tests. Assumes nothing.
+use Prim.Native.Nat.{ℕ}
 use native.Mathlib.Decide.{ℕ-discrete}
 use mathlib.Core.Path.{_≡_, refl, sym, _∙_}
-use mathlib.Core.List.{List, [], _∷_}
 use mathlib.Core.Bool.{Bool, true, false, _&&_}
 use lib.Dec.{eqb}
-use lib.ListN.{length, getD}
 use borrow.Author.Tests.{ne-eqb}
 
 pub eqb-swap : (a b : ℕ) → eqb a b ≡ eqb b a
@@ -19,7 +16,3 @@ eqb-swap a b = go (ℕ-discrete a b)
 pub and-false : (b : Bool) → b && false ≡ false
 and-false true = refl
 and-false false = refl
-
-pub getD-past : (xs : List ℕ) (i : ℕ) → length xs ≤ i → getD xs i 0 ≡ 0
-getD-past [] i h = refl
-getD-past (x ∷ xs) i h = let q : i ≡ suc (i - 1) = omega arith in rw q (getD-past xs (i - 1) (omega arith))

@@ -1,22 +1,25 @@
--- A record by the nodes that it speaks of. Assumes nothing.
+-- A record by what it speaks of. Assumes nothing.
 use Prim.Native.Nat.{ℕ}
 use mathlib.Core.List.{List}
 use Rattle.tree.specs.Forest.{spotAt}
 use Rattle.rules.specs.Record.{Rec, Span, no-span, span-of, with-value}
+use Rattle.rules.specs.Dubious.{reason-span}
 use Rattle.answer.specs.declared.Note.{Note}
 use Rattle.answer.specs.declared.Place.{Place}
-use Rattle.answer.specs.declared.Place.the-variants.{Nowhere, Node}
+use Rattle.answer.specs.declared.Place.the-variants.{Nowhere, Node, Reason}
 use Rattle.answer.specs.declared.Words.{Words}
 
 -- "0 0 where absent"
 unfoldable pub spanOf : List ℕ → Place → Span
 spanOf t Nowhere = no-span
 spanOf t (Node i) = span-of (spotAt t i)
+spanOf t (Reason l) = reason-span l
 
 -- "65535: none"
 unfoldable pub valueOf : List ℕ → Place → ℕ
 valueOf t Nowhere = 65535
 valueOf t (Node i) = spotAt t i .value
+valueOf t (Reason l) = 65535
 
 unfoldable pub recOf : List ℕ → Note → Rec
 recOf t n =

@@ -14,14 +14,16 @@ use rules::Outcome;
 use rules::Refusal;
 use rules::WIDTH;
 use tree::Judged;
+use tree::Likeness;
 use tree::bytes::begin_at;
 use tree::bytes::end_at;
 use tree::bytes::value_at;
 
-// A node that a record speaks of, where it speaks of one.
+// What a record speaks of: nothing, a node, or why two keys are equal, which stands where a third span would.
 pub enum Place {
     Nowhere,
     Node(usize),
+    Reason(Likeness),
 }
 
 // A record by the nodes whose spans and value it has.
@@ -94,6 +96,7 @@ fn begin_of(t: &[u8], p: Place) -> u32
     match p {
         Place::Nowhere => 0,
         Place::Node(i) => word(begin_at(t, i)),
+        Place::Reason(l) => l.reason(),
     }
 }
 
@@ -103,6 +106,7 @@ fn end_of(t: &[u8], p: Place) -> u32
     match p {
         Place::Nowhere => 0,
         Place::Node(i) => word(end_at(t, i)),
+        Place::Reason(_) => 0,
     }
 }
 
@@ -112,6 +116,7 @@ fn value_of(t: &[u8], p: Place) -> u32
     match p {
         Place::Nowhere => 65535,
         Place::Node(i) => word(value_at(t, i)),
+        Place::Reason(_) => 65535,
     }
 }
 

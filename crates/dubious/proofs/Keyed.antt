@@ -13,22 +13,23 @@ use Rattle.tree.specs.Forest.{Spot, Head, Forest, none, node, spotAt, headAt, f
 use Rattle.tree.specs.code.Part.{Part}
 use Rattle.tree.specs.Judge.{judged}
 use Rattle.tree.specs.code.Sound.{Sound}
-use Rattle.tree.specs.Keys.{Likeness, different, same-form, same-number, alike, like, same-key}
+use Rattle.tree.specs.Keys.{like}
 use Rattle.tree.specs.Table.{tableOf, at}
-use Rattle.tree.specs.code.Numbers.{key-number, KeyNumbers}
+use Rattle.tree.specs.code.Numbers.{KeyNumbers, like-by}
 use Rattle.tree.specs.declared.Mode.{Mode}
+use Rattle.tree.specs.declared.Likeness.{Likeness}
 use Rattle.tree.specs.declared.Facts.{Facts}
 use Rattle.tree.specs.declared.Judged.the-variants.{Valid}
 use Rattle.tree.proofs.Laws.{ended, forest-none, forest-node, induct}
 use Rattle.tree.proofs.Whole.{sound, whole-part}
 use Rattle.tree.proofs.Entries.{names-fit, value-among-names, value-past-names}
-use Rattle.tree.proofs.KeyTable.{same-key-number}
+use Rattle.tree.proofs.KeyTable.{like-numbers}
 use Rattle.rules.specs.Record.{Rec, listed}
 use Rattle.rules.specs.Visit.{each}
-use Rattle.rules.specs.Dubious.{keys, double, clash, against, doubles, dict-at, idle-at, unsaid, dubious, dubious-list}
+use Rattle.rules.specs.Dubious.{keys, clash, against, doubles, dict-at, idle-at, dubious, dubious-list}
 use Rattle.rules.proofs.Few.{dubious-list-few}
 use Rattle.answer.proofs.Whole.{few-nodes}
-use Rattle.dubious.specs.Scan.{keyed, is-key}
+use Rattle.dubious.specs.Scan.{is-key}
 
 -- every key has a value number below nv
 pub data Low (nv : ℕ) : List Spot → Type 0 where
@@ -48,33 +49,21 @@ keys-low nv (node h k s) (fine-node a u v) = go (is-key h) refl (keys-low nv s v
     go false e l = l
 
 -- two key tests that agree below nv
-module _ (nv : ℕ) (p q : ℕ → ℕ → Likeness) (agree : (a b : ℕ) → a < nv → b < nv → alike (p a b) ≡ alike (q a b)) where
-  clash-same : (l m : Likeness) (old s : Spot) (on on′ : List Rec) → alike l ≡ alike m → on ≡ on′ → clash p unsaid l old s on ≡ clash q unsaid m old s on′
-  clash-same different different old s on on′ e f = f
-  clash-same same-form same-form old s on on′ e f = refl
-  clash-same same-form same-number old s on on′ e f = refl
-  clash-same same-number same-form old s on on′ e f = refl
-  clash-same same-number same-number old s on on′ e f = refl
-  clash-same different same-form old s on on′ e f = let z : _≡_ {A = ℕ} 0 1 = ap (λ (b : Bool). cond b 1 0) e in absurd (omega arith)
-  clash-same different same-number old s on on′ e f = let z : _≡_ {A = ℕ} 0 1 = ap (λ (b : Bool). cond b 1 0) e in absurd (omega arith)
-  clash-same same-form different old s on on′ e f = let z : _≡_ {A = ℕ} 1 0 = ap (λ (b : Bool). cond b 1 0) e in absurd (omega arith)
-  clash-same same-number different old s on on′ e f = let z : _≡_ {A = ℕ} 1 0 = ap (λ (b : Bool). cond b 1 0) e in absurd (omega arith)
-
-  against-same : (s : Spot) (os : List Spot) → s .value < nv → Low nv os → against p unsaid s os ≡ against q unsaid s os
+module _ (nv : ℕ) (p q : ℕ → ℕ → Likeness) (agree : (a b : ℕ) → a < nv → b < nv → p a b ≡ q a b) where
+  against-same : (s : Spot) (os : List Spot) → s .value < nv → Low nv os → against p s os ≡ against q s os
   against-same s [] h w = refl
   against-same s (o ∷ os) h (low-more a w) =
-      clash-same (p (o .value) (s .value)) (q (o .value) (s .value)) o s (against p unsaid s os) (against q unsaid s os)
-      (agree (o .value) (s .value) a h) (against-same s os h w)
+      ap₂ (λ (l : Likeness) (on : List Rec). clash l o s on) (agree (o .value) (s .value) a h) (against-same s os h w)
 
-  doubles-same : (os ss : List Spot) → Low nv os → Low nv ss → doubles p unsaid os ss ≡ doubles q unsaid os ss
+  doubles-same : (os ss : List Spot) → Low nv os → Low nv ss → doubles p os ss ≡ doubles q os ss
   doubles-same os [] w v = refl
   doubles-same os (s ∷ ss) w (low-more a v) =
       ap₂ (λ (x y : List Rec). x ++ y) (against-same s os a w) (doubles-same (s ∷ os) ss (low-more a w) v)
 
-  dict-same : (h : Head) (k : Forest) → Fine nv k → dict-at p unsaid h k ≡ dict-at q unsaid h k
+  dict-same : (h : Head) (k : Forest) → Fine nv k → dict-at p h k ≡ dict-at q h k
   dict-same h k w = ap (λ (l : List Rec). listed (eqb 29 (h .kind)) l []) (doubles-same [] (keys k) low-none (keys-low nv k w))
 
-  each-same : (f : Forest) → Fine nv f → each (dict-at p unsaid) f ≡ each (dict-at q unsaid) f
+  each-same : (f : Forest) → Fine nv f → each (dict-at p) f ≡ each (dict-at q) f
   each-same none w = refl
   each-same (node h k s) (fine-node a u v) =
       ap₂ (λ (x y : List Rec). x ++ y) (dict-same h k u) (ap₂ (λ (x y : List Rec). x ++ y) (each-same k u) (each-same s v))
@@ -107,25 +96,16 @@ part-fine {t} {f} s p = induct (λ i e. e ≤ nodeCount t → Fine (valueCount t
         → (e ≤ nodeCount t → Fine (valueCount t) (forestOf t (i + sizeAt t i) e)) → e ≤ nodeCount t → Fine (valueCount t) (forestOf t i e)
     more i e p lt u v n = rw (forest-node p lt) (fine-node (key-value s i (omega arith)) (u (omega (arith, ended p lt))) (v n))
 
-alike-cond : (b : Bool) → alike (cond b same-form different) ≡ b
-alike-cond true = refl
-alike-cond false = refl
-
 module _ (t : List ℕ) (f : Facts) (valid : judged t ≡ Valid f) (bytes : (k : ℕ) → getD t k 0 < 256) (m : Mode) (ns : List ℕ) (numbers : KeyNumbers t m ns) where
-  agree : (a b : ℕ) → a < valueCount t → b < valueCount t → alike (like m (at (tableOf t) a) (at (tableOf t) b)) ≡ alike (keyed ns a b)
-  agree a b h k =
-      let s = sound t f valid in
-      same-key-number t f valid bytes m a b h k
-      ∙ rw (sym (numbers a (omega (arith, s .few-values))), sym (numbers b (omega (arith, s .few-values)))) (sym (alike-cond (eqb (getD ns a 0) (getD ns b 0))))
-
   -- what the walks list is the list of 01
-  pub list-is : dubious-list m t ≡ dubious (keyed ns) unsaid (forestOf t 0 (f .nodes))
+  pub list-is : dubious-list m t ≡ dubious (like-by ns) (forestOf t 0 (f .nodes))
   unfolding dubious-list treeOf
   list-is =
       let s = sound t f valid in
       rw (s .nodes)
       (ap (λ (l : List Rec). l ++ each idle-at (forestOf t 0 (nodeCount t)))
-      (each-same (valueCount t) (λ a b. like m (at (tableOf t) a) (at (tableOf t) b)) (keyed ns) agree (forestOf t 0 (nodeCount t)) (part-fine s (whole-part t f s) (omega arith))))
+      (each-same (valueCount t) (λ a b. like m (at (tableOf t) a) (at (tableOf t) b)) (like-by ns)
+      (λ a b h k. sym (like-numbers t f valid bytes m ns numbers a b h k)) (forestOf t 0 (nodeCount t)) (part-fine s (whole-part t f s) (omega arith))))
 
   pub list-few : length (dubious-list m t) ≤ 18446744073709551615
   list-few = omega (arith, dubious-list-few m t, few-nodes t f valid)

@@ -11,18 +11,21 @@ use borrow.Author.Tests.{eq-eqb, ne-eqb, lt-ltb, le-ltb}
 use Rattle.tree.specs.Bytes.{kindAt, roleAt, sizeAt, valueAt, pick}
 use Rattle.tree.specs.Forest.{Spot, Head, Forest, none, node, spotAt, headAt, forestOf}
 use Rattle.tree.specs.code.Part.{Part, Subtree}
-use Rattle.tree.specs.Keys.{Likeness, different, same-form}
+use Rattle.tree.specs.declared.Likeness.{Likeness}
+use Rattle.tree.specs.declared.Likeness.the-variants.{Different, SameForm, SameNumber}
+use Rattle.tree.specs.Keys.{alike}
+use Rattle.tree.specs.code.Numbers.{like-by}
 use Rattle.tree.specs.code.Find.{childOf}
 use Rattle.rules.specs.Record.{Rec, named-at, listed}
 use Rattle.rules.specs.Visit.{spot-at, each, kind-at}
-use Rattle.rules.specs.Dubious.{keys, double, clash, against, doubles, unsaid, dict-at, idle-at}
+use Rattle.rules.specs.Dubious.{keys, double, clash, against, doubles, dict-at, idle-at}
 use Rattle.tree.proofs.Laws.{sized, first, kids}
 use Rattle.answer.specs.Page.{Page, write, writes}
 use Rattle.answer.proofs.Laws.{writes-none, writes-one}
 use Rattle.answer.proofs.Flat.{past, over, split}
 use Rattle.answer.proofs.Bits.{eqb-swap, and-false}
 use Rattle.answer.proofs.ByRole.{kind-there, kind-absent, place-there}
-use Rattle.dubious.specs.Scan.{keyed, is-key, before, seen, doubled, clashes}
+use Rattle.dubious.specs.Scan.{is-key, before, seen, doubled, clashes}
 
 -- ---- is-key
 
@@ -71,17 +74,27 @@ before-append (x ∷ xs) ys zs = before-append xs ys (x ∷ zs)
 
 -- ---- the previous equal key
 
+clash-alike : (l : Likeness) (old s : Spot) (on : List Rec) → alike l ≡ true → clash l old s on ≡ double l old s ∷ []
+clash-alike Different old s on e = let z : _≡_ {A = ℕ} 0 1 = ap (λ (b : Bool). cond b 1 0) e in absurd (omega arith)
+clash-alike SameForm old s on e = refl
+clash-alike SameNumber old s on e = refl
+
+clash-other : (l : Likeness) (old s : Spot) (on : List Rec) → alike l ≡ false → clash l old s on ≡ on
+clash-other Different old s on e = refl
+clash-other SameForm old s on e = let z : _≡_ {A = ℕ} 1 0 = ap (λ (b : Bool). cond b 1 0) e in absurd (omega arith)
+clash-other SameNumber old s on e = let z : _≡_ {A = ℕ} 1 0 = ap (λ (b : Bool). cond b 1 0) e in absurd (omega arith)
+
 module _ (ns t : List ℕ) (j : ℕ) where
   -- the key at node j against others
   abbrev pub of-j : List Spot → List Rec
-  of-j = against (keyed ns) unsaid (spotAt t j)
+  of-j = against (like-by ns) (spotAt t j)
 
   -- the key at node r, where r is below j
   abbrev pub at-most : ℕ → List Spot
   at-most r = listed (ltb r j) (spotAt t r ∷ []) []
 
   abbrev pub equal : ℕ → Bool
-  equal m = eqb (getD ns (valueAt t m) 0) (getD ns (valueAt t j) 0)
+  equal m = alike (like-by ns (valueAt t m) (valueAt t j))
 
   pub record Scanned (i old m : ℕ) : Type 0 where
     pub hit : of-j (at-most old) ≡ doubled ns t old j
@@ -91,15 +104,15 @@ module _ (ns t : List ℕ) (j : ℕ) where
   unfolding before
   before-same [] xs ys e = e
   before-same (p ∷ ps) xs ys e =
-      before-same ps (p ∷ xs) (p ∷ ys) (ap (clash (keyed ns) unsaid (keyed ns (p .value) (spotAt t j .value)) p (spotAt t j)) e)
+      before-same ps (p ∷ xs) (p ∷ ys) (ap (clash (like-by ns (p .value) (spotAt t j .value)) p (spotAt t j)) e)
 
-  equal-here : (m : ℕ) → equal m ≡ true → (xs : List Spot) → of-j (spotAt t m ∷ xs) ≡ double (keyed ns) unsaid same-form (spotAt t m) (spotAt t j) ∷ []
+  equal-here : (m : ℕ) → equal m ≡ true → (xs : List Spot) → of-j (spotAt t m ∷ xs) ≡ double (like-by ns (valueAt t m) (valueAt t j)) (spotAt t m) (spotAt t j) ∷ []
   unfolding spotAt
-  equal-here m e xs = rw e
+  equal-here m e xs = clash-alike (like-by ns (valueAt t m) (valueAt t j)) (spotAt t m) (spotAt t j) (of-j xs) e
 
   other-here : (m : ℕ) → equal m ≡ false → (xs : List Spot) → of-j (spotAt t m ∷ xs) ≡ of-j xs
   unfolding spotAt
-  other-here m e xs = rw e
+  other-here m e xs = clash-other (like-by ns (valueAt t m) (valueAt t j)) (spotAt t m) (spotAt t j) (of-j xs) e
 
   pub scan-start : (i : ℕ) → Scanned i j i
   scan-start i = let z : ltb j j ≡ false = le-ltb j j (omega arith) in record { hit = rw z; left = rw z }
@@ -145,13 +158,13 @@ module _ (ns t : List ℕ) (i j : ℕ) (p : Page) where
   clash-new old e h b = let z : ltb old j ≡ false = le-ltb old j h in rw (b, e, z) (sym (writes-none p))
 
   pub clash-put : (old : ℕ) → clashes ns t i j ≡ doubled ns t old j → old < j → is-key (headAt t j) ≡ true → {q : Page}
-      → q ≡ write p (double (keyed ns) unsaid same-form (spotAt t old) (spotAt t j)) → q ≡ writes p clash-recs
+      → q ≡ write p (double (like-by ns (valueAt t old) (valueAt t j)) (spotAt t old) (spotAt t j)) → q ≡ writes p clash-recs
   clash-put old e h b w =
       let z : ltb old j ≡ true = lt-ltb old j h in rw (b, e, z) (w ∙ sym (writes-one p _))
 
 -- the keys from node j on, with those before it
 abbrev pub from-key : List ℕ → List ℕ → ℕ → ℕ → ℕ → List Rec
-from-key ns t i j e = doubles (keyed ns) unsaid (seen (forestOf t i j)) (keys (forestOf t j e))
+from-key ns t i j e = doubles (like-by ns) (seen (forestOf t i j)) (keys (forestOf t j e))
 
 pub dict-step : (ns : List ℕ) {t : List ℕ} {i j e : ℕ} → Part t i j → Part t j e → i ≤ j → j < e
     → from-key ns t i j e ≡ listed (is-key (headAt t j)) (clashes ns t i j) [] ++ from-key ns t i (j + sizeAt t j) e
@@ -160,15 +173,15 @@ dict-step ns {t} {i} {j} {e} p q a lt =
     rw (keys-over q lt, keys-onward p q a lt, before-append) (go (is-key (headAt t j)))
   where
     go : (b : Bool)
-        → doubles (keyed ns) unsaid (seen (forestOf t i j)) (listed b (spotAt t j ∷ []) [] ++ keys (forestOf t (j + sizeAt t j) e))
-        ≡ listed b (clashes ns t i j) [] ++ doubles (keyed ns) unsaid (before (listed b (spotAt t j ∷ []) []) (seen (forestOf t i j))) (keys (forestOf t (j + sizeAt t j) e))
+        → doubles (like-by ns) (seen (forestOf t i j)) (listed b (spotAt t j ∷ []) [] ++ keys (forestOf t (j + sizeAt t j) e))
+        ≡ listed b (clashes ns t i j) [] ++ doubles (like-by ns) (before (listed b (spotAt t j ∷ []) []) (seen (forestOf t i j))) (keys (forestOf t (j + sizeAt t j) e))
     go true = rw append-nil
     go false = refl
 
 pub dict-end : (ns t : List ℕ) (i j e : ℕ) → e ≤ j → from-key ns t i j e ≡ []
 dict-end ns t i j e h = rw (keys-past t j e h)
 
-pub dict-start : (ns t : List ℕ) (i e : ℕ) → from-key ns t i i e ≡ doubles (keyed ns) unsaid [] (keys (forestOf t i e))
+pub dict-start : (ns t : List ℕ) (i e : ℕ) → from-key ns t i i e ≡ doubles (like-by ns) [] (keys (forestOf t i e))
 unfolding before
 dict-start ns t i e = rw (keys-past t i i (omega arith))
 
@@ -210,13 +223,13 @@ module _ (t : List ℕ) (i e j : ℕ) (w : Subtree t i) (p : Page) where
 
 module _ (ns t : List ℕ) (i e : ℕ) (p : Page) where
   abbrev pub expr-recs : List Rec
-  expr-recs = dict-at (keyed ns) unsaid (headAt t i) (forestOf t (i + 1) (i + sizeAt t i))
+  expr-recs = dict-at (like-by ns) (headAt t i) (forestOf t (i + 1) (i + sizeAt t i))
 
   pub expr-no : (kindAt t i ≡ 29 → ⊥) → p ≡ writes p expr-recs
   unfolding headAt
   expr-no h = rw (ne-eqb 29 (kindAt t i) (λ z. h (sym z))) (sym (writes-none p))
 
   pub expr-dict : kindAt t i ≡ 29 → e ≡ i + sizeAt t i → {q : Page}
-      → q ≡ writes p (doubles (keyed ns) unsaid [] (keys (forestOf t (i + 1) e))) → q ≡ writes p expr-recs
+      → q ≡ writes p (doubles (like-by ns) [] (keys (forestOf t (i + 1) e))) → q ≡ writes p expr-recs
   unfolding headAt
   expr-dict k ee w = rw (k, append-nil) (rw ee at w)

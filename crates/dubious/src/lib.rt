@@ -3,20 +3,20 @@
 ghost use mathlib.Core.Path.{_≡_};
 ghost use mathlib.Core.List.{[]};
 ghost use Prim.Native.Nat.{_+_, _≤_, _<_};
-ghost use lib.Dec.{eqb};
-ghost use lib.ListN.{getD};
 ghost use mathlib.Core.Bool.{_&&_};
 ghost use Rattle.tree.specs.Bytes.{sizeAt, valueAt, pick};
 ghost use Rattle.tree.specs.Forest.{headAt, forestOf};
+ghost use Rattle.tree.specs.Keys.{alike};
+ghost use Rattle.tree.specs.code.Numbers.{like-by};
 ghost use Rattle.tree.specs.code.Part.{Part, Subtree};
 ghost use Rattle.tree.specs.Judge.{judged};
 ghost use Rattle.tree.specs.declared.Judged.the-variants.{Valid};
 ghost use Rattle.rules.specs.Record.{listed};
 ghost use Rattle.rules.specs.Visit.{each};
-ghost use Rattle.rules.specs.Dubious.{keys, doubles, dict-at, idle-at, unsaid, dubious};
+ghost use Rattle.rules.specs.Dubious.{keys, doubles, dict-at, idle-at, dubious};
 ghost use Rattle.rules.specs.Calls.{dubious-call};
 ghost use Rattle.answer.specs.Page.{writes, page};
-ghost use Rattle.dubious.specs.Scan.{keyed, is-key, doubled, clashes};
+ghost use Rattle.dubious.specs.Scan.{is-key, doubled, clashes};
 use answer::Note;
 use answer::Place;
 use answer::Sheet;
@@ -28,25 +28,22 @@ use rules::Refusal;
 use rules::WIDTH;
 use tree::Facts;
 use tree::Judged;
+use tree::Likeness;
 use tree::Mode;
 use tree::bytes::kind_at;
 use tree::bytes::role_at;
 use tree::bytes::size_at;
 use tree::bytes::value_at;
-use tree::bytes::widen;
 use tree::children::child_of;
 use tree::judge;
 use tree::keys::key_numbers;
+use tree::keys::like;
 
-// The number that stands for the key at node j.
-fn key_at(t: &[u8], numbers: &[u16], j: usize) -> usize
-    ensures { λ r. ⌜ r ≡ getD (now (numbers .entry)) (valueAt (now (t .entry)) j) 0 ⌝ }
+// What the key test says of the keys at nodes m and j.
+fn likeness(t: &[u8], numbers: &[u16], m: usize, j: usize) -> Likeness
+    ensures { λ r. ⌜ r ≡ like-by (now (numbers .entry)) (valueAt (now (t .entry)) m) (valueAt (now (t .entry)) j) ⌝ }
 {
-    let v = value_at(t, j);
-    if v < numbers.len() {
-        return widen(numbers[v]);
-    }
-    0
+    like(numbers, value_at(t, m), value_at(t, j))
 }
 
 // Identifiers and literals are keys.
@@ -65,12 +62,15 @@ fn to_key(t: &[u8], j: usize) -> bool
 
 // Node m, where it is a key equal to that of node j; else old.
 fn later_key(t: &[u8], numbers: &[u16], m: usize, j: usize, old: usize) -> usize
-    ensures { λ r. ⌜ r ≡ pick (is-key (headAt (now (t .entry)) m) && eqb (getD (now (numbers .entry)) (valueAt (now (t .entry)) m) 0) (getD (now (numbers .entry)) (valueAt (now (t .entry)) j) 0)) m old ⌝ }
+    ensures { λ r. ⌜ r ≡ pick (is-key (headAt (now (t .entry)) m) && alike (like-by (now (numbers .entry)) (valueAt (now (t .entry)) m) (valueAt (now (t .entry)) j))) m old ⌝ }
 {
     if to_key(t, m) {
-        if key_at(t, numbers, m) == key_at(t, numbers, j) {
-            return m;
-        }
+        let l = likeness(t, numbers, m, j);
+        return match l {
+            Likeness::Different => old,
+            Likeness::SameForm => m,
+            Likeness::SameNumber => m,
+        };
     }
     old
 }
@@ -89,7 +89,7 @@ fn previous(t: &[u8], numbers: &[u16], i: usize, j: usize) -> usize
     old
 }
 
-// 16 at the previous equal key, for the key at node j.
+// 16 at the previous equal key, and why it is equal, for the key at node j.
 fn clash(t: &[u8], numbers: &[u16], i: usize, j: usize, out: &mut [u32], s: Sheet) -> Sheet
     requires { ⌜ Part (now t) i j ⌝ }
     ensures { λ r. ⌜ page (now (out .exit)) r ≡ writes (page (now (out .entry)) s) (listed (is-key (headAt (now (t .entry)) j)) (clashes (now (numbers .entry)) (now (t .entry)) i j) []) ⌝ }
@@ -106,7 +106,7 @@ fn clash(t: &[u8], numbers: &[u16], i: usize, j: usize, out: &mut [u32], s: Shee
                     at: old,
                     value: Place::Node(j),
                     second: Place::Node(j),
-                    third: Place::Nowhere,
+                    third: Place::Reason(likeness(t, numbers, old, j)),
                 },
             );
         }
@@ -117,7 +117,7 @@ fn clash(t: &[u8], numbers: &[u16], i: usize, j: usize, out: &mut [u32], s: Shee
 // The keys of a dict with children from node i up to e.
 fn dict(t: &[u8], numbers: &[u16], i: usize, e: usize, out: &mut [u32], s: Sheet) -> Sheet
     requires { ⌜ Part (now t) i e × (i ≤ e) ⌝ }
-    ensures { λ r. ⌜ page (now (out .exit)) r ≡ writes (page (now (out .entry)) s) (doubles (keyed (now (numbers .entry))) unsaid [] (keys (forestOf (now (t .entry)) i e))) ⌝ }
+    ensures { λ r. ⌜ page (now (out .exit)) r ≡ writes (page (now (out .entry)) s) (doubles (like-by (now (numbers .entry))) [] (keys (forestOf (now (t .entry)) i e))) ⌝ }
 {
     let mut r = s;
     let mut j = i;
@@ -130,7 +130,7 @@ fn dict(t: &[u8], numbers: &[u16], i: usize, e: usize, out: &mut [u32], s: Sheet
 
 fn expr(t: &[u8], numbers: &[u16], i: usize, out: &mut [u32], s: Sheet) -> Sheet
     requires { ⌜ Subtree (now t) i ⌝ }
-    ensures { λ r. ⌜ page (now (out .exit)) r ≡ writes (page (now (out .entry)) s) (dict-at (keyed (now (numbers .entry))) unsaid (headAt (now (t .entry)) i) (forestOf (now (t .entry)) (i + 1) (i + sizeAt (now (t .entry)) i))) ⌝ }
+    ensures { λ r. ⌜ page (now (out .exit)) r ≡ writes (page (now (out .entry)) s) (dict-at (like-by (now (numbers .entry))) (headAt (now (t .entry)) i) (forestOf (now (t .entry)) (i + 1) (i + sizeAt (now (t .entry)) i))) ⌝ }
 {
     if kind_at(t, i) == 29 {
         return dict(t, numbers, i + 1, i + size_at(t, i), out, s);
@@ -141,7 +141,7 @@ fn expr(t: &[u8], numbers: &[u16], i: usize, out: &mut [u32], s: Sheet) -> Sheet
 // 16, each node before its children.
 fn duplicate_dictionary_key(t: &[u8], numbers: &[u16], n: usize, out: &mut [u32], s: Sheet) -> Sheet
     requires { ⌜ Part (now t) 0 n ⌝ }
-    ensures { λ r. ⌜ page (now (out .exit)) r ≡ writes (page (now (out .entry)) s) (each (dict-at (keyed (now (numbers .entry))) unsaid) (forestOf (now (t .entry)) 0 n)) ⌝ }
+    ensures { λ r. ⌜ page (now (out .exit)) r ≡ writes (page (now (out .entry)) s) (each (dict-at (like-by (now (numbers .entry)))) (forestOf (now (t .entry)) 0 n)) ⌝ }
 {
     let mut r = s;
     let mut i = 0;
@@ -197,7 +197,7 @@ fn identifier_as_statement(t: &[u8], n: usize, out: &mut [u32], s: Sheet) -> She
 
 fn lint(t: &[u8], numbers: &[u16], n: usize, out: &mut [u32], s: Sheet) -> Sheet
     requires { ⌜ Part (now t) 0 n ⌝ }
-    ensures { λ r. ⌜ page (now (out .exit)) r ≡ writes (page (now (out .entry)) s) (dubious (keyed (now (numbers .entry))) unsaid (forestOf (now (t .entry)) 0 n)) ⌝ }
+    ensures { λ r. ⌜ page (now (out .exit)) r ≡ writes (page (now (out .entry)) s) (dubious (like-by (now (numbers .entry))) (forestOf (now (t .entry)) 0 n)) ⌝ }
 {
     let r = duplicate_dictionary_key(t, numbers, n, out, s);
     identifier_as_statement(t, n, out, r)

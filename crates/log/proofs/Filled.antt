@@ -1,6 +1,7 @@
--- SARIF 2.1.0, 3.11.5, placeholders alone, over bytes before JSON's escape: a message fills to its phrase, its value's kind and the
--- value; in the log bytes outside UTF-8 are as the escape has them. Assumes nothing.
+-- SARIF 2.1.0, 3.11.5, placeholders alone, over bytes before JSON's escape: a message fills to its phrase, for a duplicate key with the
+-- reason, its value's kind and the value; in the log bytes outside UTF-8 are as the escape has them. Assumes nothing.
 use Prim.Native.Nat.{ℕ}
+use Prim.Native.String.{String}
 use mathlib.Core.Path.{_≡_, refl, sym, ap, _∙_}
 use mathlib.Core.Bool.{Bool, true, false, cond, _&&_, not}
 use mathlib.Core.List.{List, [], _∷_, _++_, append-nil}
@@ -9,15 +10,16 @@ use lib.Dec.{T, eqb, ltb}
 use lib.ListN.{length, List·getD-eq-default}
 use borrow.Author.Tests.{ltb-false}
 use Rattle.base.specs.Ascii.{ascii}
-use Rattle.base.proofs.Bools.{nope, and-left, and-right}
+use Rattle.base.proofs.Bools.{nope, and-left, and-right, both}
 use Rattle.tree.specs.Values.{Value}
 use Rattle.tree.specs.Table.{tableOf, no-value, at}
 use Rattle.rules.specs.Record.{Rec}
 use Rattle.rules.specs.Visit.{look}
 use Rattle.rules.proofs.Look.{look-so}
-use Rattle.json.specs.Escape.{hexes}
-use Rattle.log.specs.Words.{phrases, kinds, seconds, thirds, phrase, kind-word, shown, value-of, after-phrase, message-text, arguments}
+use Rattle.json.specs.Escape.{hex, hexes}
+use Rattle.log.specs.Words.{phrases, kinds, seconds, thirds, reason, phrase, phrase-of, kind-word, shown, value-of, after-phrase, message-text, arguments}
 use Rattle.log.specs.Fill.{fill, filled, says}
+use Rattle.log.proofs.Plainly.{reason-so}
 
 -- ---- words without a brace are shown as they are
 
@@ -28,9 +30,16 @@ abbrev no-braces : List ℕ → Bool
 no-braces [] = true
 no-braces (b ∷ s) = no-brace b && no-braces s
 
-phrase-plain : (c : ℕ) → T (no-braces (phrase c))
+no-braces-append : (s u : List ℕ) → T (no-braces s) → T (no-braces u) → T (no-braces (s ++ u))
+no-braces-append [] u p q = q
+no-braces-append (b ∷ s) u p q =
+    both (no-brace b) (no-braces (s ++ u)) (and-left (no-brace b) (no-braces s) p)
+    (no-braces-append s u (and-right (no-brace b) (no-braces s) p) q)
+
+phrase-plain : (c n : ℕ) → T (no-braces (phrase c n))
 unfolding phrase
-phrase-plain c = look-so (λ n s. no-braces (ascii s)) c phrases "" tt tt
+phrase-plain c n =
+    no-braces-append (ascii (look c phrases "")) (reason c n) (look-so (λ n s. no-braces (ascii s)) c phrases "" tt tt) (reason-so no-braces tt tt c n)
 
 kind-plain : (k : ℕ) → T (no-braces (kind-word k))
 unfolding kind-word
@@ -56,30 +65,31 @@ placed : (a : List ℕ) → filled (a ∷ []) (ascii "{0}") ≡ some a
 unfolding fill
 placed a = ap some (append-nil a)
 
-some-shown : (c : ℕ) (w : Value) → filled (arguments (some w)) (message-text c (some w)) ≡ some (phrase c ++ (kind-word (w .kind) ++ shown w))
+some-shown : (r : Rec) (w : Value) → filled (arguments (some w)) (message-text r (some w)) ≡ some (phrase-of r ++ (kind-word (w .kind) ++ shown w))
 unfolding after-phrase arguments
-some-shown c w =
-    before (shown w ∷ []) (phrase c) (kind-word (w .kind) ++ ascii "{0}") (kind-word (w .kind) ++ shown w) (phrase-plain c)
+some-shown r w =
+    before (shown w ∷ []) (phrase-of r) (kind-word (w .kind) ++ ascii "{0}") (kind-word (w .kind) ++ shown w)
+    (phrase-plain (r .code) (r .third .begin))
     (before (shown w ∷ []) (kind-word (w .kind)) (ascii "{0}") (shown w) (kind-plain (w .kind)) (placed (shown w)))
 
-none-shown : (c : ℕ) → filled (arguments none) (message-text c none) ≡ some (phrase c ++ (kind-word (no-value .kind) ++ shown no-value))
+none-shown : (r : Rec) → filled (arguments none) (message-text r none) ≡ some (phrase-of r ++ (kind-word (no-value .kind) ++ shown no-value))
 unfolding after-phrase arguments kind-word shown hexes fill
-none-shown c = before [] (phrase c) [] [] (phrase-plain c) refl
+none-shown r = before [] (phrase-of r) [] [] (phrase-plain (r .code) (r .third .begin)) refl
 
-message-shown : (vs : List Value) (c v : ℕ) → filled (arguments (value-of vs v)) (message-text c (value-of vs v)) ≡ some (says vs c v)
-message-shown vs c v = go (ltb v (length vs)) refl
+message-shown : (vs : List Value) (r : Rec) → let o = value-of vs (r .spot .value) in filled (arguments o) (message-text r o) ≡ some (says vs r)
+message-shown vs r = go (ltb (r .spot .value) (length vs)) refl
   where
-    go : (b : Bool) → ltb v (length vs) ≡ b
-        → filled (arguments (cond b (some (at vs v)) none)) (message-text c (cond b (some (at vs v)) none)) ≡ some (says vs c v)
-    go true e = some-shown c (at vs v)
+    go : (b : Bool) → ltb (r .spot .value) (length vs) ≡ b → let o = cond b (some (at vs (r .spot .value))) none in
+        filled (arguments o) (message-text r o) ≡ some (says vs r)
+    go true e = some-shown r (at vs (r .spot .value))
     go false e =
-        let z : at vs v ≡ no-value = List·getD-eq-default vs no-value (ltb-false v (length vs) e) in
-        none-shown c ∙ ap (λ (w : Value). some (phrase c ++ (kind-word (w .kind) ++ shown w))) (sym z)
+        let z : at vs (r .spot .value) ≡ no-value = List·getD-eq-default vs no-value (ltb-false (r .spot .value) (length vs) e) in
+        none-shown r ∙ ap (λ (w : Value). some (phrase-of r ++ (kind-word (w .kind) ++ shown w))) (sym z)
 
 -- EVERY MESSAGE FILLS TO WHAT IT SAYS, for every file and every record
 pub message-filled : (t : List ℕ) (r : Rec) → let o = value-of (tableOf t) (r .spot .value) in
-    filled (arguments o) (message-text (r .code) o) ≡ some (says (tableOf t) (r .code) (r .spot .value))
-message-filled t r = message-shown (tableOf t) (r .code) (r .spot .value)
+    filled (arguments o) (message-text r o) ≡ some (says (tableOf t) r)
+message-filled t r = message-shown (tableOf t) r
 
 -- the messages of related locations have no arguments, and no placeholder
 pub other-filled : (c : ℕ) → filled [] (ascii (look c seconds "")) ≡ some (ascii (look c seconds ""))
@@ -88,8 +98,26 @@ other-filled c = alone (ascii (look c seconds "")) (look-so (λ n s. no-braces (
 pub third-filled : (c : ℕ) → filled [] (ascii (look c thirds "")) ≡ some (ascii (look c thirds ""))
 third-filled c = alone (ascii (look c thirds "")) (look-so (λ n s. no-braces (ascii s)) c thirds "" tt tt)
 
+-- ---- a duplicate key, for each of 02's two reasons
+
+abbrev duplicate : ℕ → Rec
+duplicate n =
+    record {
+      code = 16;
+      spot = record { begin = 1; end = 2; value = 0 };
+      second = record { begin = 6; end = 9 };
+      third = record { begin = n; end = 0 };
+    }
+
+abbrev shows-as : ℕ → Value → String → Type 0
+shows-as n v s = filled (arguments (some v)) (message-text (duplicate n) (some v)) ≡ some (ascii s)
+
 -- a key with braces: an argument's are no placeholders
-pub braces-kept : filled (ascii "{name} [a](b) }" ∷ []) (ascii "Duplicate dictionary key string {0}")
-    ≡ some (ascii "Duplicate dictionary key string {name} [a](b) }")
-unfolding fill
+pub braces-kept : shows-as 1 (record { kind = 1; bytes = ascii "{name} [a](b) }" })
+    "Duplicate dictionary key, the same key again: string {name} [a](b) }"
+unfolding fill after-phrase arguments phrase reason kind-word shown
 braces-kept = refl
+
+pub number-said : shows-as 2 (record { kind = 3; bytes = 1 ∷ [] }) "Duplicate dictionary key, the same number in another form: integer 0x01"
+unfolding fill after-phrase arguments phrase reason kind-word shown hexes hex
+number-said = refl

@@ -9,6 +9,7 @@ use lib.Dec.{T, eqb, leb, leb→le}
 use borrow.Author.Tests.{ne-eqb}
 use Rattle.tree.specs.Values.{Value}
 use Rattle.rules.specs.Visit.{look}
+use Rattle.rules.specs.Record.{Rec, Span}
 use Rattle.base.specs.Ascii.{ascii}
 use Rattle.rules.specs.Codes.{disabled}
 use Rattle.base.proofs.Bools.{and-left, and-right, both}
@@ -19,8 +20,8 @@ use Rattle.page.specs.Digits.{decimal}
 use Rattle.json.proofs.Plain.{all-plain, plain-append, plain-same, decimal-plain, hexes-plain}
 use Rattle.codes.specs.Named.{severity-of}
 use Rattle.codes.specs.declared.EvalSeverity.the-variants.{Disabled, Warning}
-use Rattle.log.specs.Words.{phrases, kinds, seconds, thirds, phrase, kind-word, shown, after-phrase, message-text}
-use Rattle.log.specs.Log.{level}
+use Rattle.log.specs.Words.{phrases, reasons, kinds, seconds, thirds, reason, phrase, phrase-of, kind-word, shown, after-phrase, message-text}
+use Rattle.log.specs.Log.{level, other, related}
 use Rattle.rules.specs.Joined.{codes}
 
 -- ---- numbers that stand in no row
@@ -32,9 +33,17 @@ above c m h (e ∷ es) t =
     let z : eqb c (e .0) ≡ false = ne-eqb c (e .0) (λ q. omega arith) in
     both (not (eqb c (e .0))) (unlisted c es) (rw z tt) (above c m h es (and-right (leb (e .0) m) (all-so (λ n s. leb n m) es) t))
 
-pub no-phrase : (c : ℕ) → codes < c → phrase c ≡ []
+pub no-reason : (c n : ℕ) → (c ≡ 16 → ⊥) → reason c n ≡ []
+unfolding reason
+no-reason c n d = rw (ne-eqb c 16 d)
+
+pub no-such-reason : (n : ℕ) → 2 < n → reason 16 n ≡ []
+unfolding reason
+no-such-reason n h = ap ascii (look-none n reasons "" (above n 2 h reasons tt))
+
+pub no-phrase : (c n : ℕ) → codes < c → phrase c n ≡ []
 unfolding phrase
-no-phrase c h = ap ascii (look-none c phrases "" (above c codes h phrases tt))
+no-phrase c n h = rw (look-none c phrases "" (above c codes h phrases tt)) (no-reason c n (λ e. omega arith))
 
 pub no-kind : (k : ℕ) → 4 < k → kind-word k ≡ []
 unfolding kind-word
@@ -42,9 +51,19 @@ no-kind k h = ap ascii (look-none k kinds "" (above k 4 h kinds tt))
 
 -- ---- what stands for itself
 
-phrase-plain : (c : ℕ) → T (all-plain (phrase c))
+-- what holds of no words and of each row's holds of a reason
+pub reason-so : (q : List ℕ → Bool) → T (q []) → T (all-so (λ n s. q (ascii s)) reasons) → (c n : ℕ) → T (q (reason c n))
+unfolding reason
+reason-so q z t c n = go (eqb c 16)
+  where
+    go : (b : Bool) → T (q (cond b (ascii (look n reasons "")) []))
+    go true = look-so (λ n s. q (ascii s)) n reasons "" t z
+    go false = z
+
+pub phrase-plain : (c n : ℕ) → T (all-plain (phrase c n))
 unfolding phrase
-phrase-plain c = look-so (λ n s. all-plain (ascii s)) c phrases "" tt tt
+phrase-plain c n =
+    plain-append (ascii (look c phrases "")) (reason c n) (look-so (λ n s. all-plain (ascii s)) c phrases "" tt tt) (reason-so all-plain tt tt c n)
 
 kind-plain : (k : ℕ) → T (all-plain (kind-word k))
 unfolding kind-word
@@ -55,8 +74,9 @@ unfolding after-phrase
 after-phrase-plain none = tt
 after-phrase-plain (some v) = plain-append (kind-word (v .kind)) (ascii "{0}") (kind-plain (v .kind)) tt
 
-pub message-same : (c : ℕ) (o : Option Value) → escaped (message-text c o) ≡ message-text c o
-message-same c o = plain-same (message-text c o) (plain-append (phrase c) (after-phrase o) (phrase-plain c) (after-phrase-plain o))
+pub message-same : (r : Rec) (o : Option Value) → escaped (message-text r o) ≡ message-text r o
+message-same r o =
+    plain-same (message-text r o) (plain-append (phrase-of r) (after-phrase o) (phrase-plain (r .code) (r .third .begin)) (after-phrase-plain o))
 
 pub shown-text : (v : Value) → leb (v .kind) 2 ≡ true → escaped (shown v) ≡ escaped (v .bytes)
 unfolding shown
@@ -107,3 +127,9 @@ no-second c d e f g =
 
 pub no-third : (c : ℕ) → (c ≡ 7 → ⊥) → look c thirds "" ≡ ""
 no-third c d = look-none c thirds "" (both (not (eqb c 7)) true (apart c 7 d) tt)
+
+-- 02, §11: what stands in the third span of code 16 is no place
+pub reason-no-place : (r : Rec) (s : Span) → r .code ≡ 16
+    → related (record { code = r .code; spot = r .spot; second = r .second; third = s }) ≡ related r
+unfolding related other
+reason-no-place r s e = rw e

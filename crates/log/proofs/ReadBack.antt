@@ -49,7 +49,7 @@ after-span t r rest =
     ∷ members false
     ("kind" ⇒ string (result-kind (r .code))
     ⨾ "level" ⇒ string (level (r .code))
-    ⨾ message-of (r .code) (value-of (tableOf t) (r .spot .value))
+    ⨾ message-of r (value-of (tableOf t) (r .spot .value))
     ⨾ "relatedLocations" ⇒ Json.array (related r)
     ⨾ done) (0x7D ∷ rest)
 

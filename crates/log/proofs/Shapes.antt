@@ -14,7 +14,7 @@ use Rattle.json.specs.Escape.{unit, escape, escaped}
 use Rattle.page.specs.Digits.{digits, decimal}
 use Rattle.json.specs.Text.{string, array, _⇒_, quoted, text, member, lines}
 use Rattle.json.proofs.Sound.{lines-rest}
-use Rattle.log.specs.Words.{phrase, kind-word, shown, after-phrase, arguments, value-of}
+use Rattle.log.specs.Words.{phrase-of, kind-word, shown, after-phrase, arguments, value-of}
 use Rattle.log.specs.Log.{only, level, message-of, strings, index-of, result, results, rule, rules, sarif-log}
 use Rattle.log.specs.Pieces.{open-place, related-place, all-related, message-end, result-rule, result-standing, result-place, result-related, head, tail}
 use Rattle.log.proofs.Plainly.{message-same, decimal-same, level-same}
@@ -40,11 +40,11 @@ pub value-text : (v : Value) (rest : List ℕ)
 unfolding text escape unit front after-phrase arguments
 value-text v rest = rw append-assoc
 
-pub message-of-text : (code : ℕ) (o : Option Value) (rest : List ℕ)
-    → ascii "\"message\":{\"text\":\"" ++ (phrase code ++ message-end o rest) ≡ member (message-of code o) rest
+pub message-of-text : (r : Rec) (o : Option Value) (rest : List ℕ)
+    → ascii "\"message\":{\"text\":\"" ++ (phrase-of r ++ message-end o rest) ≡ member (message-of r o) rest
 unfolding text escape unit front
-message-of-text code o rest =
-    rw (message-same code o) (ap (λ (l : List ℕ). ascii "\"message\":{\"text\":\"" ++ l) (sym (append-assoc (phrase code) (after-phrase o)
+message-of-text r o rest =
+    rw (message-same r o) (ap (λ (l : List ℕ). ascii "\"message\":{\"text\":\"" ++ l) (sym (append-assoc (phrase-of r) (after-phrase o)
     (0x22 ∷ 0x2C ∷ member ("arguments" ⇒ array (strings (arguments o))) (0x7D ∷ rest)))))
 
 pub rule-level-text : (code : ℕ) (rest : List ℕ)
@@ -88,7 +88,7 @@ unfolding text escape unit front
 result-related-text r rest = refl
 
 pub result-text : (t tally : List ℕ) (r : Rec) (rest : List ℕ)
-    → result-rule tally (r .code) (result-place r (0x2C ∷ member (message-of (r .code) (value-of (tableOf t) (r .spot .value))) (result-related r rest)))
+    → result-rule tally (r .code) (result-place r (0x2C ∷ member (message-of r (value-of (tableOf t) (r .spot .value))) (result-related r rest)))
     ≡ text (result t tally r) rest
 unfolding text result
 result-text t tally r rest = refl

@@ -33,11 +33,12 @@ use Rattle.json.specs.Text.{Items, nil}
 use Rattle.page.proofs.Decimals.{few-digits, decimal-few}
 use Rattle.spans.specs.Fit.{Fit, Each}
 use Rattle.spans.proofs.Whole.{file-fit}
-use Rattle.log.specs.Words.{seconds, thirds, kinds, phrase, kind-word, shown, value-of, after-phrase, message-text, arguments}
+use Rattle.log.specs.Words.{seconds, thirds, kinds, phrase, phrase-of, kind-word, shown, value-of, after-phrase, message-text, arguments}
 use Rattle.log.specs.Log.{level, result-kind, place, message, message-of, strings, other, related, nonzeros, index-of, result, results, rule, if-any, rules, sarif-log, log}
 use Rattle.log.specs.Size.{Bounded}
-use Rattle.log.proofs.Plainly.{decimal-same}
-use Rattle.log.proofs.Weight.{weight, escaped-length, weight-append, weight-most, hexes-weight}
+use Rattle.log.proofs.Plainly.{phrase-plain, decimal-same}
+use Rattle.log.proofs.Weight.{weight, escaped-length, weight-append, weight-most, plain-weight, hexes-weight}
+use Rattle.log.proofs.Worded.{phrase-short}
 use Rattle.log.proofs.TextSize.{size, items-size, lines-size, member-size, text-length, first-fewer, first-line}
 use Rattle.rules.specs.Joined.{codes}
 
@@ -91,10 +92,10 @@ message-size : (s : List ℕ) → member-size (message s) ≡ 21 + length (escap
 unfolding size escape unit front
 message-size s = omega arith
 
-message-of-size : (c : ℕ) (o : Option Value)
-    → member-size (message-of c o) ≡ 36 + (length (escaped (message-text c o)) + items-size true (strings (arguments o)))
+message-of-size : (r : Rec) (o : Option Value)
+    → member-size (message-of r o) ≡ 36 + (length (escaped (message-text r o)) + items-size true (strings (arguments o)))
 unfolding size escape unit front
-message-of-size c o = omega arith
+message-of-size r o = omega arith
 
 -- a location with these words is at most so large; after another it has a comma
 abbrev other-most : String → ℕ
@@ -144,11 +145,14 @@ index-digits tally c h = go (ltb c 11) refl
         let m = nonzeros-most tally (c - 1) in few-digits 0 (nonzeros (take (c - 1) tally)) (omega arith)
     go false e = let m = nonzeros-most tally (c - 1) in few-digits 1 (nonzeros (take (c - 1) tally)) (omega arith)
 
--- ---- a result: what its code decides, computed for each code
+-- ---- a result: what its code decides, computed for each code, with 60 for a phrase
+
+phrase-most : (c n : ℕ) → weight (phrase c n) ≤ 60
+phrase-most c n = omega (arith, plain-weight (phrase c n) (phrase-plain c n), phrase-short c n)
 
 abbrev code-most : ℕ → ℕ
 code-most c =
-    length (decimal c) + (cond (ltb c 11) 1 2 + (length (escaped (result-kind c)) + (length (escaped (level c)) + (weight (phrase c)
+    length (decimal c) + (cond (ltb c 11) 1 2 + (length (escaped (result-kind c)) + (length (escaped (level c)) + (60
     + (other-most (look c seconds "") + later-most (look c thirds ""))))))
 
 abbrev all-below : ℕ → (ℕ → Bool) → Bool
@@ -166,7 +170,7 @@ below q (suc n) c t h =
     (λ e. let ne = eqb-false c n e in below q n c (and-right (q n) (all-below n q) t) (omega arith))
 
 codes-most : T (all-below (suc codes) (λ c. leb (code-most c) 424))
-unfolding phrase decimal to.digits escape unit front
+unfolding decimal to.digits escape unit front
 codes-most = tt
 
 code-so : (c : ℕ) → c ≤ codes → code-most c ≤ 424
@@ -183,10 +187,11 @@ result-most t tally r b =
       ap length (decimal-same c),
       index-digits tally c (b .a-code),
       place-most (span-of (r .spot)) (omega (arith, b .each-u32)),
-      escaped-length (message-text c o),
-      weight-append (phrase c) (after-phrase o),
+      escaped-length (message-text r o),
+      weight-append (phrase-of r) (after-phrase o),
+      phrase-most c (r .third .begin),
       value-most o (value-short (tableOf t) (r .spot .value) (b .short-value)),
-      message-of-size c o,
+      message-of-size r o,
       related-most r (omega (arith, b .each-u32)) (omega (arith, b .each-u32)),
     )
 

@@ -78,7 +78,7 @@ weight-most (b ∷ s) = omega (arith, cost-range (must b) (leb b 0x7F), weight-m
 
 -- ---- bytes that stand for themselves
 
-plain-weight : (s : List ℕ) → T (all-plain s) → weight s ≡ length s
+pub plain-weight : (s : List ℕ) → T (all-plain s) → weight s ≡ length s
 plain-weight [] p = refl
 plain-weight (b ∷ s) p =
     let q = and-left (plain b) (all-plain s) p in

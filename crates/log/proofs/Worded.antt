@@ -2,11 +2,12 @@
 use Prim.Native.Nat.{ℕ, suc, _+_, _-_, _≤_, _<_, min}
 use Prim.Native.String.{String, [] as end, _∷_ as _then_}
 use native.Mathlib.Omega.{arith}
+use borrow.Author.Tests.{eqb-true, eqb-false}
 use mathlib.Core.Path.{_≡_, refl, sym, ap, subst, _∙_}
-use mathlib.Core.Bool.{true}
-use mathlib.Core.List.{List, [], _∷_, _++_}
-use lib.Dec.{leb, leb→le}
-use lib.ListN.{length, drop, getD, length-take, length-drop}
+use mathlib.Core.Bool.{Bool, true, false}
+use mathlib.Core.List.{List, [], _∷_, _++_, append-assoc}
+use lib.Dec.{eqb, leb, leb→le}
+use lib.ListN.{length, drop, getD, length-take, length-drop, length-append}
 use Rattle.base.specs.Ascii.{ascii}
 use Rattle.rules.specs.Visit.{look}
 use Rattle.rules.specs.Record.{Rec, Span}
@@ -16,35 +17,61 @@ use Rattle.page.specs.Page.{Wrote}
 use Rattle.json.specs.Escape.{escape}
 use Rattle.json.specs.Text.{nil, text, items}
 use Rattle.json.proofs.Plain.{all-plain, plain-same}
-use Rattle.page.proofs.Pages.{wrote-most}
-use Rattle.log.specs.Words.{phrases, kinds, seconds, phrase, kind-word}
+use Rattle.page.proofs.Pages.{then as joined, retold, wrote-most}
+use Rattle.log.specs.Words.{phrases, reasons, kinds, seconds, reason, phrase, kind-word}
 use Rattle.log.specs.Log.{other, related}
 use Rattle.log.specs.Pieces.{related-place, second-related, all-related}
-use Rattle.log.proofs.Plainly.{no-second, no-third}
+use Rattle.log.proofs.Plainly.{no-reason, reason-so, no-second, no-third}
 use Rattle.rules.specs.Joined.{codes}
 
+abbrev pub phrase-words : ℕ → List ℕ
+phrase-words c = ascii (look c phrases "")
+
 -- no words are said of 0
-pub phrase-piece : (c : ℕ) → c ≤ codes → Piece (letters phrases) (0 ∷ begins-from 0 phrases) c (phrase c)
-unfolding phrase
-phrase-piece c h = pieces (letters phrases) (0 ∷ begins-from 0 phrases) phrase (suc codes) tt c (omega arith)
+pub phrase-piece : (c : ℕ) → c ≤ codes → Piece (letters phrases) (0 ∷ begins-from 0 phrases) c (phrase-words c)
+phrase-piece c h = pieces (letters phrases) (0 ∷ begins-from 0 phrases) phrase-words (suc codes) tt c (omega arith)
+
+pub reason-piece : (n : ℕ) → n ≤ 2 → Piece (letters reasons) (0 ∷ begins-from 0 reasons) n (reason 16 n)
+unfolding reason
+reason-piece n h = pieces (letters reasons) (0 ∷ begins-from 0 reasons) (reason 16) 3 tt n (omega arith)
 
 pub kind-piece : (k : ℕ) → k ≤ 4 → Piece (letters kinds) (begins-from 0 kinds) k (kind-word k)
 unfolding kind-word
 kind-piece k h = pieces (letters kinds) (begins-from 0 kinds) kind-word 5 tt k (omega arith)
 
-pub phrase-short : (c : ℕ) → length (phrase c) ≤ 60
+pub reason-short : (c n : ℕ) → length (reason c n) ≤ 34
+reason-short c n = leb→le (length (reason c n)) 34 (reason-so (λ s. leb (length s) 34) tt tt c n)
+
+words-short : (c : ℕ) → length (phrase-words c) ≤ 60
+words-short c = leb→le (length (phrase-words c)) 60 (look-so (λ n s. leb (length (ascii s)) 60) c phrases "" tt tt)
+
+pub phrase-short : (c n : ℕ) → length (phrase c n) ≤ 60
 unfolding phrase
-phrase-short c = leb→le (length (phrase c)) 60 (look-so (λ n s. leb (length (ascii s)) 60) c phrases "" tt tt)
+phrase-short c n = rw length-append (go (eqb c 16) refl)
+  where
+    go : (b : Bool) → eqb c 16 ≡ b → length (phrase-words c) + length (reason c n) ≤ 60
+    go true e = rw (eqb-true c 16 e) (omega (arith, reason-short 16 n))
+    go false e = rw (no-reason c n (eqb-false c 16 e)) (omega (arith, words-short c))
 
 pub kind-short : (k : ℕ) → length (kind-word k) ≤ 16
 unfolding kind-word
 kind-short k = leb→le (length (kind-word k)) 16 (look-so (λ n s. leb (length (ascii s)) 16) k kinds "" tt tt)
 
 -- what is written of a piece
-pub piece-wrote : {o o₁ : List ℕ} {n n₁ : ℕ} (s begins : List ℕ) (k : ℕ) (w : List ℕ) (m : ℕ) → Piece s begins k w → length w ≤ m
-    → Wrote o n o₁ n₁ (length (piece s begins k)) (λ rest. piece s begins k ++ rest) → Wrote o n o₁ n₁ m (λ rest. w ++ rest)
-piece-wrote {o = o} {o₁ = o₁} {n = n} {n₁ = n₁} s begins k w m p h r =
-    wrote-most w m h (subst (λ (l : List ℕ). Wrote o n o₁ n₁ (length l) (λ rest. l ++ rest)) (p .is) r)
+pub piece-wrote : {o o₁ : List ℕ} {n n₁ j : ℕ} (s begins : List ℕ) (k : ℕ) (w : List ℕ) (m : ℕ) → Piece s begins k w → length w ≤ m
+    → Wrote o n o₁ n₁ j (λ rest. piece s begins k ++ rest) → Wrote o n o₁ n₁ m (λ rest. w ++ rest)
+piece-wrote {o = o} {o₁ = o₁} {n = n} {n₁ = n₁} {j = j} s begins k w m p h r =
+    wrote-most w m h (subst (λ (l : List ℕ). Wrote o n o₁ n₁ j (λ rest. l ++ rest)) (p .is) r)
+
+-- ... and of a reason after it
+pub phrase-wrote : {o o₁ o₂ : List ℕ} {m m₁ m₂ j : ℕ} (c n : ℕ) → c ≤ codes
+    → Wrote o m o₁ m₁ j (λ rest. piece (letters phrases) (0 ∷ begins-from 0 phrases) c ++ rest)
+    → Wrote o₁ m₁ o₂ m₂ 34 (λ rest. reason c n ++ rest) → Wrote o m o₂ m₂ 60 (λ rest. phrase c n ++ rest)
+unfolding phrase
+phrase-wrote c n h v w =
+    let words = piece-wrote (letters phrases) (0 ∷ begins-from 0 phrases) c (phrase-words c) 60 (phrase-piece c h) (words-short c) v in
+    wrote-most (phrase c n) 60 (phrase-short c n)
+    (retold 94 (λ rest. phrase c n ++ rest) (joined words w) (omega arith) (λ rest. sym (append-assoc (phrase-words c) (reason c n) rest)))
 
 -- ---- a second span, and a third
 

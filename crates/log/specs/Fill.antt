@@ -6,8 +6,9 @@ use mathlib.Core.Option.{Option, none, some}
 use lib.Dec.{eqb}
 use Rattle.tree.specs.Values.{Value}
 use Rattle.tree.specs.Table.{at}
+use Rattle.rules.specs.Record.{Rec}
 use Rattle.json.specs.Grammar.{digit}
-use Rattle.log.specs.Words.{phrase, kind-word, shown}
+use Rattle.log.specs.Words.{phrase-of, kind-word, shown}
 use Rattle.log.specs.Reader.{and-then}
 
 -- what a reader has read last: an opening brace, the digits of a number after it, a closing brace, or none of these
@@ -50,6 +51,6 @@ fill args p (b ∷ s) = and-then (step args p b) (λ x. and-then (fill args (x .
 abbrev pub filled : List (List ℕ) → List ℕ → Option (List ℕ)
 filled args s = fill args outside s
 
--- what is to be shown: the phrase of code c, and the kind and the text of value number v
-abbrev pub says : List Value → ℕ → ℕ → List ℕ
-says vs c v = phrase c ++ (kind-word (at vs v .kind) ++ shown (at vs v))
+-- what is to be shown of a record: its phrase, and the kind and the text of its value
+abbrev pub says : List Value → Rec → List ℕ
+says vs r = let v = at vs (r .spot .value) in phrase-of r ++ (kind-word (v .kind) ++ shown v)

@@ -55,9 +55,9 @@ abbrev pub strings : List (List ℕ) → Items
 strings [] = nil
 strings (s ∷ ss) = item (string s) (strings ss)
 
--- "names and keys as text, numbers in hex of their value bytes": what is said of a code and its value
-abbrev pub message-of : ℕ → Option Value → Member
-message-of c o = "message" ⇒ object ("text" ⇒ string (message-text c o) ⨾ "arguments" ⇒ array (strings (arguments o)) ⨾ done)
+-- "names and keys as text, numbers in hex of their value bytes": what is said of a record and its value
+abbrev pub message-of : Rec → Option Value → Member
+message-of r o = "message" ⇒ object ("text" ⇒ string (message-text r o) ⨾ "arguments" ⇒ array (strings (arguments o)) ⨾ done)
 
 -- a related location, where there are words for it
 unfoldable pub other : String → Span → Items → Items
@@ -84,7 +84,7 @@ result t tally r =
     ⨾ "locations" ⇒ one (only (place (span-of (r .spot))))
     ⨾ "kind" ⇒ string (result-kind (r .code))
     ⨾ "level" ⇒ string (level (r .code))
-    ⨾ message-of (r .code) (value-of (tableOf t) (r .spot .value))
+    ⨾ message-of r (value-of (tableOf t) (r .spot .value))
     ⨾ "relatedLocations" ⇒ array (related r)
     ⨾ done)
 

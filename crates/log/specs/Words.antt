@@ -4,11 +4,12 @@ use Prim.Native.String.{String}
 use mathlib.Core.Bool.{cond}
 use mathlib.Core.List.{List, [], _∷_, _++_}
 use mathlib.Core.Option.{Option, none, some}
-use lib.Dec.{leb, ltb}
+use lib.Dec.{eqb, leb, ltb}
 use lib.ListN.{length}
 use Rattle.tree.specs.Values.{Value}
 use Rattle.tree.specs.Table.{at}
 use Rattle.rules.specs.Visit.{look}
+use Rattle.rules.specs.Record.{Rec}
 use Rattle.base.specs.Ascii.{ascii}
 use Rattle.json.specs.Escape.{hexes}
 
@@ -25,6 +26,10 @@ phrases =
     ∷ (16, "Duplicate dictionary key") ∷ (17, "Statement that does nothing or fails: variable")
     ∷ []
 
+-- 02, §11: why two keys are equal, "same form, or same number in two forms", said of code 16 after its phrase
+abbrev pub reasons : List (ℕ × String)
+reasons = (1, ", the same key again:") ∷ (2, ", the same number in another form:") ∷ []
+
 -- 01's kinds of values, with the spaces around them; an integer's bytes are its digits of base 256, a float's stand as in the file
 abbrev pub kinds : List (ℕ × String)
 kinds = (0, " ") ∷ (1, " string ") ∷ (2, " bytes ") ∷ (3, " integer 0x") ∷ (4, " float of bytes ") ∷ []
@@ -36,8 +41,16 @@ seconds = (7, "the function") ∷ (8, "why the function wants a value") ∷ (15,
 abbrev pub thirds : List (ℕ × String)
 thirds = (7, "why the function wants a value") ∷ []
 
-unfoldable pub phrase : ℕ → List ℕ
-phrase c = ascii (look c phrases "")
+-- of any other code or number there is none
+unfoldable pub reason : ℕ → ℕ → List ℕ
+reason c n = cond (eqb c 16) (ascii (look n reasons "")) []
+
+unfoldable pub phrase : ℕ → ℕ → List ℕ
+phrase c n = ascii (look c phrases "") ++ reason c n
+
+-- "In a code 16 record the first word of the third span is then 1 or 2"
+abbrev pub phrase-of : Rec → List ℕ
+phrase-of r = phrase (r .code) (r .third .begin)
 
 unfoldable pub kind-word : ℕ → List ℕ
 kind-word k = ascii (look k kinds "")
@@ -55,8 +68,8 @@ unfoldable pub after-phrase : Option Value → List ℕ
 after-phrase none = []
 after-phrase (some v) = kind-word (v .kind) ++ ascii "{0}"
 
-abbrev pub message-text : ℕ → Option Value → List ℕ
-message-text c o = phrase c ++ after-phrase o
+abbrev pub message-text : Rec → Option Value → List ℕ
+message-text r o = phrase-of r ++ after-phrase o
 
 unfoldable pub arguments : Option Value → List (List ℕ)
 arguments none = []

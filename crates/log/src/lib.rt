@@ -155,7 +155,7 @@ fn second(out: &mut [u8], n: usize, code: u32, begin: u32, end: u32) -> usize
     other(out, n, &SECONDS[from..to], begin, end)
 }
 
-// Code 7 alone has a third span.
+// The third span of code 7 alone is a place.
 fn related(out: &mut [u8], n: usize, w: Words) -> usize
     ensures { λ r. ⌜ Wrote (now (out .entry)) n (now (out .exit)) r 430 (all-related (recFrom w)) ⌝ }
 {
@@ -205,10 +205,10 @@ fn said(out: &mut [u8], n: usize, t: &[u8], starts: &[usize; 512], v: u32) -> us
 
 fn message(out: &mut [u8], n: usize, t: &[u8], starts: &[usize; 512], w: Words) -> usize
     requires { ⌜ Small (now t) × Starts (now t) (now starts) ⌝ }
-    ensures { λ r. ⌜ Wrote (now (out .entry)) n (now (out .exit)) r 1650 (member (message-of (w .code) (value-of (tableOf (now (t .entry))) (w .value)))) ⌝ }
+    ensures { λ r. ⌜ Wrote (now (out .entry)) n (now (out .exit)) r 1650 (member (message-of (recFrom w) (value-of (tableOf (now (t .entry))) (w .value)))) ⌝ }
 {
     let a = raw(out, n, b"\"message\":{\"text\":\"");
-    let b = phrase(out, a, w.code);
+    let b = phrase(out, a, w.code, w.begin3);
     said(out, b, t, starts, w.value)
 }
 

@@ -9,18 +9,20 @@ use mathlib.Core.Option.{Option, none, some}
 use lib.Dec.{eqb, T, T-not, eqb→eq}
 use lib.ListN.{length, length-append, length-map}
 use Rattle.tree.specs.Forest.{Spot, Head, Forest, Forest.none as leaf, node, treeOf}
-use Rattle.tree.specs.Keys.{Likeness, different, same-form, same-number, like}
+use Rattle.tree.specs.declared.Likeness.{Likeness}
+use Rattle.tree.specs.declared.Likeness.the-variants.{Different, SameForm, SameNumber}
+use Rattle.tree.specs.Keys.{like}
 use Rattle.tree.specs.declared.Mode.{Mode}
 use Rattle.tree.specs.Table.{tableOf, spells, underscored, globalsOf, a-string, at}
 use Rattle.rules.proofs.Out.{names-few}
 use Rattle.rules.specs.Joined.{lint-list}
 use Rattle.rules.specs.Names.{names, told, names-list}
-use Rattle.rules.specs.Record.{Rec, Span, listed, plainly, named-at, with-value}
+use Rattle.rules.specs.Record.{Rec, listed, plainly, named-at, with-value}
 use Rattle.rules.specs.Visit.{has, look, last-of, spot-at, each as each-node, kind-at}
 use Rattle.rules.specs.Order.{Bind, one, several, nothing, bind-of, fail-name}
 use Rattle.rules.specs.Flow.{flow, Loads, loads-part, loads, effect, effect-part, effect-walk, tail-part, tail, redundant-part, redundant-walk, below-root, Reached, Course, in-list, one-by-one, only, on-through, after-stop, reached-part, reached, Return, everything, the-body, the-rest, returns-part, returns, ends, missing, missing-expression, bare-recs, check-for, check, reason, returns-walk, none-name, flow-list}
 use Rattle.rules.specs.Incompatible.{check-at, type-check, Deed, defines, repeats, deed-part, defined-names, self-set, Top, assigning, modifying, defining, loading, holding, aside, tops, top-part, deeds, First, first-of, times, defined, may-repeat, repeated, incompatible, once, type-name, five-types, spells-one, incompatible-list}
-use Rattle.rules.specs.Dubious.{seen-with, keys, clash, against, doubles, dict-at, idle-at, dubious, unsaid, dubious-list}
+use Rattle.rules.specs.Dubious.{seen-with, keys, clash, against, doubles, dict-at, idle-at, dubious, dubious-list}
 use Rattle.rules.specs.code.Marks.{nodes}
 use Rattle.rules.proofs.Look.{row, one-kind, look-none}
 use Rattle.rules.proofs.Bools.{both}
@@ -374,43 +376,43 @@ incompatible-few free is-type names-type f =
 
 -- ---- dubious
 
-module _ (test : ℕ → ℕ → Likeness) (reason : Likeness → Span) where
-  clash-one : (l : Likeness) (old s : Spot) (on : List Rec) → length on ≤ 1 → length (clash test reason l old s on) ≤ 1
-  clash-one different old s on h = h
-  clash-one same-form old s on h = omega arith
-  clash-one same-number old s on h = omega arith
+clash-one : (l : Likeness) (old s : Spot) (on : List Rec) → length on ≤ 1 → length (clash l old s on) ≤ 1
+clash-one Different old s on h = h
+clash-one SameForm old s on h = omega arith
+clash-one SameNumber old s on h = omega arith
 
-  against-one : (s : Spot) (seen : List Spot) → length (against test reason s seen) ≤ 1
+module _ (test : ℕ → ℕ → Likeness) where
+  against-one : (s : Spot) (seen : List Spot) → length (against test s seen) ≤ 1
   against-one s [] = omega arith
-  against-one s (old ∷ seen) = clash-one (test (old .value) (s .value)) old s (against test reason s seen) (against-one s seen)
+  against-one s (old ∷ seen) = clash-one (test (old .value) (s .value)) old s (against test s seen) (against-one s seen)
 
-  doubles-few : (seen ss : List Spot) → length (doubles test reason seen ss) ≤ length ss
+  doubles-few : (seen ss : List Spot) → length (doubles test seen ss) ≤ length ss
   doubles-few seen [] = omega arith
   doubles-few seen (s ∷ ss) =
       let a = against-one s seen in
       let b = doubles-few (seen-with s seen) ss in
-      let e = length-append (against test reason s seen) (doubles test reason (seen-with s seen) ss) in
+      let e = length-append (against test s seen) (doubles test (seen-with s seen) ss) in
       omega arith
 
   -- the keys among these, and the records of the dicts in and below them
-  dicts-most : (f : Forest) → length (each-node (dict-at test reason) f) + length (keys f) ≤ nodes f
+  dicts-most : (f : Forest) → length (each-node (dict-at test) f) + length (keys f) ≤ nodes f
   dicts-most leaf = omega arith
   dicts-most (node h k s) =
-      let a = listed-most (eqb 29 (h .kind)) (doubles test reason [] (keys k)) [] in
+      let a = listed-most (eqb 29 (h .kind)) (doubles test [] (keys k)) [] in
       let b = doubles-few [] (keys k) in
       let c = dicts-most k in
       let d = dicts-most s in
-      let e = length-append (dict-at test reason h k) (each-node (dict-at test reason) k ++ each-node (dict-at test reason) s) in
-      let g = length-append (each-node (dict-at test reason) k) (each-node (dict-at test reason) s) in
+      let e = length-append (dict-at test h k) (each-node (dict-at test) k ++ each-node (dict-at test) s) in
+      let g = length-append (each-node (dict-at test) k) (each-node (dict-at test) s) in
       let i = listed-most (eqb 8 (h .role) && (eqb 20 (h .kind) || eqb 21 (h .kind))) (h .spot ∷ []) (keys s) in
       omega (arith, a, b, c, d, e, g, i)
 
   -- DUBIOUS: at most two records a node
-  pub dubious-few : (f : Forest) → length (dubious test reason f) ≤ 2 * nodes f
+  pub dubious-few : (f : Forest) → length (dubious test f) ≤ 2 * nodes f
   dubious-few f =
       let a = dicts-most f in
       let b = each-few idle-at (λ h k. listed-one (eqb 5 (h .kind) && eqb 20 (kind-at 4 k)) (named-at 17 (spot-at 4 k))) f in
-      let e = length-append (each-node (dict-at test reason) f) (each-node idle-at f) in
+      let e = length-append (each-node (dict-at test) f) (each-node idle-at f) in
       omega (arith, a, b, e)
 
 -- ---- of a file's bytes
@@ -433,7 +435,7 @@ incompatible-list-few t = incompatible-few once (spells (tableOf t) type-name) (
 
 pub dubious-list-few : (mode : Mode) (t : List ℕ) → length (dubious-list mode t) ≤ 2 * nodes (treeOf t)
 unfolding dubious-list
-dubious-list-few mode t = dubious-few (λ a b. like mode (at (tableOf t) a) (at (tableOf t) b)) unsaid (treeOf t)
+dubious-list-few mode t = dubious-few (λ a b. like mode (at (tableOf t) a) (at (tableOf t) b)) (treeOf t)
 
 -- THE JOINED LIST: at most ten records a node
 pub lint-few : (mode : Mode) (t : List ℕ) → length (lint-list mode t) ≤ 10 * nodes (treeOf t)

@@ -206,6 +206,35 @@ ident-as-statement =
     (value-of 0 (0x78 ∷ [])
     ∷ [])
 
+-- d = {x: 0, x: 0, 1: 0, 1.0: 0, 1.0: 0, 1.5: 0}
+-- (values: d, x, 0, 1, 1.0, 1.5)
+abbrev pub two-reasons : List ℕ
+two-reasons =
+    file
+    (node-of 6 0 15 0 46 65535
+    ∷ node-of 40 5 1 0 1 0
+    ∷ node-of 29 4 13 4 46 65535
+    ∷ node-of 20 8 1 5 6 1
+    ∷ node-of 21 4 1 8 9 2
+    ∷ node-of 20 8 1 11 12 1
+    ∷ node-of 21 4 1 14 15 2
+    ∷ node-of 21 8 1 17 18 3
+    ∷ node-of 21 4 1 20 21 2
+    ∷ node-of 21 8 1 23 26 4
+    ∷ node-of 21 4 1 28 29 2
+    ∷ node-of 21 8 1 31 34 4
+    ∷ node-of 21 4 1 36 37 2
+    ∷ node-of 21 8 1 39 42 5
+    ∷ node-of 21 4 1 44 45 2
+    ∷ [])
+    (value-of 0 (0x64 ∷ [])
+    ∷ value-of 0 (0x78 ∷ [])
+    ∷ value-of 3 []
+    ∷ value-of 3 (0x01 ∷ [])
+    ∷ value-of 4 (0x00 ∷ 0x00 ∷ 0x00 ∷ 0x00 ∷ 0x00 ∷ 0x00 ∷ 0xf0 ∷ 0x3f ∷ [])
+    ∷ value-of 4 (0x00 ∷ 0x00 ∷ 0x00 ∷ 0x00 ∷ 0x00 ∷ 0x00 ∷ 0xf8 ∷ 0x3f ∷ [])
+    ∷ [])
+
 -- for i in xs:
 --   for j in xs:
 --     for k in xs:
@@ -313,7 +342,8 @@ six-loops =
 
 -- ---- the lists
 
--- "13 0 1 65535 0 0 0 0"; codes 1, 3, 4, 5, 7, 10, 11, 12, 14 and 17, one each;
+-- "13 0 1 65535 0 0 0 0"; codes 1, 3, 4, 5, 7, 10, 11, 12, 14 and 17, one each; 02, §11: the same form (1), the same number in two forms (2),
+-- and then 1 again, since it is the previous equal key that the later one is held against;
 -- "twice while the count of enclosing for statements (itself counted, through defs too) is at most 5, once from 6": the for in the def is the
 -- fifth, and its second round finds a set in the first (6); it is the sixth, and its one round finds no a (4)
 abbrev pub examples : List Row
@@ -330,6 +360,11 @@ examples =
     ∷ always misplaced-load (12 ∷ 8 ∷ 38 ∷ 65535 ∷ 0 ∷ 0 ∷ 0 ∷ 0 ∷ [])
     ∷ always incompatible-type-check (14 ∷ 6 ∷ 20 ∷ 1 ∷ 0 ∷ 0 ∷ 0 ∷ 0 ∷ [])
     ∷ always ident-as-statement (17 ∷ 0 ∷ 1 ∷ 0 ∷ 0 ∷ 0 ∷ 0 ∷ 0 ∷ [])
+    ∷ always two-reasons
+    (16 ∷ 5 ∷ 6 ∷ 1 ∷ 11 ∷ 12 ∷ 1 ∷ 0
+    ∷ 16 ∷ 17 ∷ 18 ∷ 4 ∷ 23 ∷ 26 ∷ 2 ∷ 0
+    ∷ 16 ∷ 23 ∷ 26 ∷ 4 ∷ 31 ∷ 34 ∷ 1 ∷ 0
+    ∷ [])
     ∷ always five-loops (6 ∷ 122 ∷ 123 ∷ 1 ∷ 0 ∷ 0 ∷ 0 ∷ 0 ∷ [])
     ∷ always six-loops (4 ∷ 149 ∷ 150 ∷ 1 ∷ 0 ∷ 0 ∷ 0 ∷ 0 ∷ [])
     ∷ []

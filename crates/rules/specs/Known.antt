@@ -202,7 +202,7 @@ always t ns = record { tree = t; ordinarily = ns; strictly = ns }
 -- "Names: at module level, for i in xs with print(a), a = 1 inside: one 6 at the use of a."
 -- "In a def, if c: x = 1, return; else: return; then use(x): names nothing for x; flow one 9 at use(x)."
 -- "x = 1, x = 2 at module level: names 2 at the first x; incompatible 15 at the second."
--- "Keys 1, 1.0, 1: 16 at the first, 16 at the second."
+-- "Keys 1, 1.0, 1: 16 at the first, 16 at the second." 02, §11: "In 01's case 1, 1.0, 1 both records say 2."
 -- "Keys 10000000000, 1e10: nothing; strict: one 16."
 -- "load x, x = x, x = x: incompatible one 15."
 -- "def g() -> None with return 1 only inside an if: 8."
@@ -212,8 +212,8 @@ rows =
     ∷ always looped (6 ∷ 21 ∷ 22 ∷ 0 ∷ 0 ∷ 0 ∷ 0 ∷ 0 ∷ [])
     ∷ always both-return (9 ∷ 59 ∷ 65 ∷ 65535 ∷ 0 ∷ 0 ∷ 0 ∷ 0 ∷ [])
     ∷ always set-twice (2 ∷ 0 ∷ 1 ∷ 0 ∷ 0 ∷ 0 ∷ 0 ∷ 0 ∷ 15 ∷ 6 ∷ 7 ∷ 0 ∷ 0 ∷ 1 ∷ 0 ∷ 0 ∷ [])
-    ∷ always three-ones (16 ∷ 5 ∷ 6 ∷ 3 ∷ 11 ∷ 14 ∷ 0 ∷ 0 ∷ 16 ∷ 11 ∷ 14 ∷ 2 ∷ 19 ∷ 20 ∷ 0 ∷ 0 ∷ [])
-    ∷ record { tree = large-keys; ordinarily = []; strictly = 16 ∷ 5 ∷ 16 ∷ 3 ∷ 21 ∷ 25 ∷ 0 ∷ 0 ∷ [] }
+    ∷ always three-ones (16 ∷ 5 ∷ 6 ∷ 3 ∷ 11 ∷ 14 ∷ 2 ∷ 0 ∷ 16 ∷ 11 ∷ 14 ∷ 2 ∷ 19 ∷ 20 ∷ 2 ∷ 0 ∷ [])
+    ∷ record { tree = large-keys; ordinarily = []; strictly = 16 ∷ 5 ∷ 16 ∷ 3 ∷ 21 ∷ 25 ∷ 2 ∷ 0 ∷ [] }
     ∷ always loaded (15 ∷ 21 ∷ 22 ∷ 0 ∷ 10 ∷ 13 ∷ 0 ∷ 0 ∷ [])
     ∷ always some-return (8 ∷ 0 ∷ 37 ∷ 1 ∷ 29 ∷ 37 ∷ 0 ∷ 0 ∷ [])
     ∷ []

@@ -1,15 +1,18 @@
 -- Names: every record has a code of 1 to 6 and a span that ends no earlier than it begins. Assumes nothing.
 use Prim.Native.Nat.{ℕ, suc, _≤_}
 use native.Mathlib.Omega.{arith}
+use mathlib.Core.Path.{sym, subst}
 use mathlib.Core.Bool.{Bool, true, false, cond, not}
 use mathlib.Core.List.{List, [], _∷_, _++_, map}
 use mathlib.Core.Option.{Option, none, some}
 use lib.Dec.{eqb, leb}
+use borrow.Author.Tests.{ne-eqb}
+use Rattle.rules.specs.Record.{no-span}
 use Rattle.tree.specs.Forest.{Spot, Head, Forest, Forest.none as leaf, node, treeOf}
 use Rattle.tree.specs.Table.{tableOf, spells, underscored, globalsOf}
 use Rattle.rules.specs.Order.{Sort, Cmd, skip, _⨟_, use-of, set-of, stop, branch, loop, scope, fails, Form, form-of, Bind, one, several, nothing, bind-of, bind-part, use-part, binds, uses, picked, Want, of-role, every, first-over, first-bound, clauses, part, takes, body, fail-called, fail-name}
 use Rattle.rules.specs.Names.{Abort, abort-of, smaller, join, unloop, Spots, Standing, absent, maybe, definitely, Setting, set-names, Scope, fresh, Warning, State, warned, warn-new, warn, warn-if, warn-all, keep, set-at, mark, cannot, unbinds, stands, Found, nowhere, surely, perhaps, Search, search-step, search-out, use-out, use-as, branch-of, same-state, round, rounds, unused, spared, idle, farewell, enter, passed, leave-to, undefined, walk, names, told, names-list}
-use Rattle.spans.specs.Fit.{Fit, Each, Ordered}
+use Rattle.spans.specs.Fit.{Third, Fit, Each, Ordered}
 use Rattle.spans.proofs.Each.{Straight, join as both-lists}
 
 -- ---- lists
@@ -307,7 +310,7 @@ fit-told w h = record {
   a-code = let high = h .code .high in omega arith;
   first = h .spot;
   second = omega arith;
-  third = omega arith;
+  third = subst (λ (b : Bool). Third b no-span) (sym (ne-eqb 16 (w .code) (λ e. let high = h .code .high in omega arith))) (omega arith);
 }
 
 all-fit : (ws : List Warning) → Told ws → Each Fit (map told ws)

@@ -1,4 +1,4 @@
--- Every record of a valid file's list has a code of 1 to 17, and no span that ends before it begins. Assumes nothing.
+-- Every record of a valid file's list makes sense. Assumes nothing.
 use Prim.Native.Nat.{ℕ}
 use native.Mathlib.Omega.{arith}
 use mathlib.Core.Path.{_≡_}
@@ -14,7 +14,7 @@ use Rattle.rules.specs.Order.{fail-name}
 use Rattle.rules.specs.Names.{names-list}
 use Rattle.rules.specs.Flow.{none-name, flow-list}
 use Rattle.rules.specs.Incompatible.{once, type-name, five-types, spells-one, incompatible-list}
-use Rattle.rules.specs.Dubious.{unsaid, dubious-list}
+use Rattle.rules.specs.Dubious.{dubious-list}
 use Rattle.rules.specs.Joined.{lint-list}
 use Rattle.spans.specs.Fit.{Fit, Each, Ordered}
 use Rattle.spans.proofs.Each.{join}
@@ -35,7 +35,7 @@ module _ (t : List ℕ) (o : Ordered (treeOf t)) where
 
   dubious-list-fit : (mode : Mode) → Each Fit (dubious-list mode t)
   unfolding dubious-list
-  dubious-list-fit mode = dubious-fit (λ a b. like mode (at (tableOf t) a) (at (tableOf t) b)) unsaid (λ l. omega arith) (treeOf t) o
+  dubious-list-fit mode = dubious-fit (λ a b. like mode (at (tableOf t) a) (at (tableOf t) b)) (treeOf t) o
 
 -- THE JOINED LIST
 pub file-fit : (t : List ℕ) (f : Facts) → judged t ≡ Valid f → (mode : Mode) → Each Fit (lint-list mode t)

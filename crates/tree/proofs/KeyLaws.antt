@@ -19,7 +19,7 @@ use Rattle.base.proofs.Bools.{or-cases, or-left, or-right}
 use Rattle.tree.specs.Values.{Value, Sense, a-name, a-text, an-integer, a-float, unknown, sense, onward, magnitude, little, no-zero-first, form-as, formed, bytes-before, by-length, precedes}
 use Rattle.tree.specs.declared.Mode.{Mode}
 use Rattle.tree.specs.Bytes.{same-bytes}
-use Rattle.tree.specs.Keys.{scaled, grains, finite, whole, counts, only-if, counted, number-as, number, same-form, formed-alike, same-numbers, likeness, like, alike, same-key}
+use Rattle.tree.specs.Keys.{scaled, grains, finite, whole, counts, only-if, counted, number-as, number, formed-alike, same-numbers, likeness, like, alike, same-key}
 
 -- what a list of bytes is to a law that must know it
 abbrev pub all-bytes : List ℕ → Bool
@@ -55,12 +55,12 @@ pub data Same (m : Mode) (v w : Value) : Type 0 where
   by-form : v ≡ w → Same m v w
   by-number : (n : ℕ) → number m v ≡ some n → number m w ≡ some n → Same m v w
 
-numbers-of : (o p : Option ℕ) → T (same-numbers o p) → (n : ℕ) × (o ≡ some n) × (p ≡ some n)
+pub numbers-of : (o p : Option ℕ) → T (same-numbers o p) → (n : ℕ) × (o ≡ some n) × (p ≡ some n)
 numbers-of none p t = absurd t
 numbers-of (some n) none t = absurd t
 numbers-of (some n) (some k) t = (n, refl, ap {B = Option ℕ} some (sym (eqb→eq n k t)))
 
-numbers-same : (o p : Option ℕ) (n : ℕ) → o ≡ some n → p ≡ some n → T (same-numbers o p)
+pub numbers-same : (o p : Option ℕ) (n : ℕ) → o ≡ some n → p ≡ some n → T (same-numbers o p)
 numbers-same o p n e f = subst (λ (x : Option ℕ). T (same-numbers x p)) (sym e) (subst (λ (x : Option ℕ). T (same-numbers (some n) x)) (sym f) (eqb-refl n))
 
 likeness-cases : (a b : Bool) → T (alike (likeness a b)) → T a ⊎ T b
@@ -414,20 +414,3 @@ low-field t x h =
 
 pub high-field : (t d : ℕ) → scaled (suc (d + 1074)) t ≡ (2 ^ 52 + t) * 2 ^ d * 2 ^ 1074
 high-field t d = ap (λ (z : ℕ). (2 ^ 52 + t) * z) (pow-add 2 d 1074) ∙ sym (mul-assoc (2 ^ 52 + t) (2 ^ d) (2 ^ 1074))
-
--- the same form is the same value, and the test is even
-
-likeness-form : (a b : Bool) → likeness a b ≡ same-form → T a
-likeness-form true b e = tt
-likeness-form false true e = let z : _≡_ {A = ℕ} 0 1 = cc in absurd (omega arith)
-likeness-form false false e = let z : _≡_ {A = ℕ} 0 1 = cc in absurd (omega arith)
-
-form-likeness : (a b : Bool) → T a → likeness a b ≡ same-form
-form-likeness true b t = refl
-form-likeness false b t = absurd t
-
-pub like-form : (m : Mode) (v w : Value) → (like m v w ≡ same-form) ↔ (v ≡ w)
-like-form m v w = (
-  λ e. formed-alike→eq v w (likeness-form (formed-alike v w) (same-numbers (number m v) (number m w)) e),
-  λ e. form-likeness (formed-alike v w) (same-numbers (number m v) (number m w)) (subst (λ (x : Value). T (formed-alike v x)) e (formed-alike-refl v)),
-)

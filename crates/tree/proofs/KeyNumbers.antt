@@ -6,15 +6,17 @@ use mathlib.Core.List.{List}
 use mathlib.Core.Bool.{Bool, true, false}
 use mathlib.Core.Option.{some}
 use lib.Dec.{ltb}
+use lib.ListN.{getD}
 use borrow.Author.Tests.{eq-eqb, ne-eqb}
 use Rattle.tree.specs.Bytes.{nodeCount, valueCount, pick}
 use Rattle.tree.specs.code.Offsets.{u64At, capped, kindOf, lenOf}
 use Rattle.tree.specs.Search.{lowest}
 use Rattle.tree.specs.Values.{valueFrom, offset}
 use Rattle.tree.specs.declared.Mode.{Mode}
+use Rattle.tree.specs.declared.Likeness.the-variants.{Different, SameForm, SameNumber}
 use Rattle.tree.specs.Keys.{whole, bound, counted}
 use Rattle.tree.specs.Table.{tableOf, at}
-use Rattle.tree.specs.code.Numbers.{below-or, is-integer, lead, key-number}
+use Rattle.tree.specs.code.Numbers.{below-or, is-integer, lead, key-number, like-by}
 use Rattle.tree.proofs.Link.{length-from, little-eight}
 use Rattle.tree.proofs.TableLaws.{length-table, at-table, at-past}
 use Rattle.tree.proofs.WholeLaws.{counted-low, counted-high}
@@ -54,3 +56,18 @@ module _ (t : List ℕ) (m : Mode) (v o : ℕ) (h : v < valueCount t) (e : o ≡
   key-low k l x q g =
       let w : counted m (whole (u64At t (o + 3))) ≡ some x = rw q (counted-low m (whole (u64At t (o + 3))) (rw q at g)) in
       key-float k l ∙ ap (lead (tableOf t) v) w ∙ ap (λ (n : ℕ). below-or (lowest n (is-integer (tableOf t) x)) n v) (length-table t)
+
+-- ---- the key test by the table
+
+module _ (table : List ℕ) (a b : ℕ) where
+  pub like-one : a ≡ b → SameForm ≡ like-by table a b
+  unfolding like-by
+  like-one e = rw (eq-eqb a b e)
+
+  pub like-two : (a ≡ b → ⊥) → {x y : ℕ} → x ≡ getD table a 0 → y ≡ getD table b 0 → x ≡ y → SameNumber ≡ like-by table a b
+  unfolding like-by
+  like-two d p q e = rw (ne-eqb a b d, eq-eqb (getD table a 0) (getD table b 0) (sym p ∙ (e ∙ q)))
+
+  pub like-none : (a ≡ b → ⊥) → {x y : ℕ} → x ≡ getD table a 0 → y ≡ getD table b 0 → (x ≡ y → ⊥) → Different ≡ like-by table a b
+  unfolding like-by
+  like-none d p q n = rw (ne-eqb a b d, ne-eqb (getD table a 0) (getD table b 0) (λ z. n (p ∙ (z ∙ sym q))))

@@ -4,7 +4,9 @@ use mathlib.Core.List.{List, [], _∷_, map}
 use Prim.Native.Nat.{ℕ}
 use Rattle.tree.specs.Values.{Value}
 use Rattle.tree.specs.declared.Mode.the-variants.{Ordinary, Strict}
-use Rattle.tree.specs.Keys.{Likeness, different, same-form, same-number, like}
+use Rattle.tree.specs.declared.Likeness.{Likeness}
+use Rattle.tree.specs.declared.Likeness.the-variants.{Different, SameForm, SameNumber}
+use Rattle.tree.specs.Keys.{like}
 
 abbrev value : ℕ → List ℕ → Value
 value k bs = record { kind = k; bytes = bs }
@@ -71,21 +73,21 @@ row a b o s = record { left = a; right = b; ordinarily = o; strictly = s }
 
 abbrev rows : List Row
 rows =
-    row one one-float same-number same-number
-    ∷ row one one same-form same-form
-    ∷ row nought nought-float same-number same-number
-    ∷ row last-i32 last-i32-float same-number same-number
-    ∷ row past-i32 past-i32-float different same-number
-    ∷ row ten-billion ten-billion-float different same-number
-    ∷ row below-53 below-53-float different same-number
-    ∷ row at-53 at-53-float different different
-    ∷ row at-53-float at-53-float same-form same-form
-    ∷ row half nought different different
-    ∷ row half one different different
-    ∷ row infinity infinity same-form same-form
-    ∷ row infinity at-53 different different
-    ∷ row (value 0 (0x78 ∷ [])) (value 1 (0x78 ∷ [])) different different
-    ∷ row (value 1 (0x78 ∷ [])) (value 2 (0x78 ∷ [])) different different
+    row one one-float SameNumber SameNumber
+    ∷ row one one SameForm SameForm
+    ∷ row nought nought-float SameNumber SameNumber
+    ∷ row last-i32 last-i32-float SameNumber SameNumber
+    ∷ row past-i32 past-i32-float Different SameNumber
+    ∷ row ten-billion ten-billion-float Different SameNumber
+    ∷ row below-53 below-53-float Different SameNumber
+    ∷ row at-53 at-53-float Different Different
+    ∷ row at-53-float at-53-float SameForm SameForm
+    ∷ row half nought Different Different
+    ∷ row half one Different Different
+    ∷ row infinity infinity SameForm SameForm
+    ∷ row infinity at-53 Different Different
+    ∷ row (value 0 (0x78 ∷ [])) (value 1 (0x78 ∷ [])) Different Different
+    ∷ row (value 1 (0x78 ∷ [])) (value 2 (0x78 ∷ [])) Different Different
     ∷ []
 
 pub ordinary-rows : map (λ (r : Row). like Ordinary (r .left) (r .right)) rows ≡ map (λ (r : Row). r .ordinarily) rows

@@ -1,10 +1,10 @@
 -- In a valid file two keys are the same exactly if the numbers that stand for them are. Assumes nothing.
-use Prim.Native.Nat.{ℕ, _+_, _<_}
+use Prim.Native.Nat.{ℕ, _+_, _≤_, _<_}
 use native.Mathlib.Omega.{arith}
-use native.Mathlib.Decide.{decLt}
+use native.Mathlib.Decide.{decLt, ℕ-discrete}
 use mathlib.Core.Path.{_≡_, refl, sym, ap, subst, _∙_}
 use mathlib.Core.List.{List}
-use mathlib.Core.Logic.{_↔_}
+use mathlib.Core.Logic.{_⊎_, inl, inr, _↔_}
 use mathlib.Core.Bool.{Bool, true, false, cond, _&&_}
 use mathlib.Core.Option.{Option, none, some, Option·none-ne-some, Option·some-injective}
 use lib.Dec.{T, eqb, leb, eqb→eq}
@@ -17,12 +17,14 @@ use Rattle.tree.specs.Judge.{judged}
 use Rattle.tree.specs.declared.Mode.{Mode}
 use Rattle.tree.specs.declared.Facts.{Facts}
 use Rattle.tree.specs.declared.Judged.the-variants.{Valid}
-use Rattle.tree.specs.Keys.{whole, counted, number-as, number, same-key}
+use Rattle.tree.specs.Keys.{whole, counted, number-as, number, formed-alike, same-numbers, likeness, like, alike, same-key, reason}
 use Rattle.tree.specs.Table.{tableOf, at}
-use Rattle.tree.specs.code.Numbers.{below-or, integer-is, is-integer, if-so, float-number, lead, key-number}
+use Rattle.tree.specs.code.Numbers.{below-or, integer-is, is-integer, if-so, float-number, lead, key-number, KeyNumbers, like-by}
 use Rattle.tree.proofs.Search.{clash, lowest-clear, lowest-hit, lowest-le}
 use Rattle.tree.proofs.TableLaws.{length-table, at-table, below-found, below-none}
-use Rattle.tree.proofs.KeyLaws.{all-bytes, and-left, and-right, both, Same, by-form, by-number, same-means, means-same, same-refl, same-sym, same-trans, one-form}
+use Rattle.tree.proofs.KeyLaws.{formed-alike→eq, formed-alike-refl, all-bytes, and-left, and-right, both, Same, by-form, by-number, same-means, means-same, same-refl, same-sym, same-trans, one-form}
+use Rattle.tree.proofs.KeyReasons.{said-number}
+use Rattle.tree.proofs.Whole.{sound}
 use Rattle.tree.proofs.ValidTable.{value-formed, one-number, bytes-from}
 
 so : {b : Bool} → b ≡ true → T b
@@ -31,6 +33,10 @@ so e = subst T (sym e) tt
 is-so : (b : Bool) → T b → b ≡ true
 is-so true t = refl
 is-so false t = absurd t
+
+not-so : (b : Bool) → (T b → ⊥) → b ≡ false
+not-so true n = absurd (n tt)
+not-so false n = refl
 
 -- what a value that has a number is: an integer of that magnitude, or a float that counts as it
 data Number (m : Mode) (v : Value) (n : ℕ) : Type 0 where
@@ -173,3 +179,43 @@ module _ (t : List ℕ) (f : Facts) (valid : judged t ≡ Valid f) (bytes : (k :
       → T (same-key m (at (tableOf t) a) (at (tableOf t) b)) ↔ (a ≡ b)
   unfolding vs
   one-kind a b h k e = (alone a b h k e, λ q. subst (λ (x : ℕ). T (same-key m (at vs a) (at vs x))) q (same-refl m (at vs a)))
+
+  -- the key test by value numbers and their table is that of the values
+  pub like-numbers : (ns : List ℕ) → KeyNumbers t m ns → (a b : ℕ) → a < valueCount t → b < valueCount t
+      → like-by ns a b ≡ like m (at (tableOf t) a) (at (tableOf t) b)
+  unfolding vs like-by
+  like-numbers ns table a b h k =
+      go (eqb (getD ns a 0) (getD ns b 0)) (eqb a b) (formed-alike (at vs a) (at vs b)) (same-numbers (number m (at vs a)) (number m (at vs b))) one-value
+      (rw (table a (omega (arith, few)), table b (omega (arith, few))) (sym (same-key-number a b h k)))
+    where
+      few : valueCount t ≤ 512
+      few = sound t f valid .few-values
+
+      one-value : eqb a b ≡ formed-alike (at vs a) (at vs b)
+      one-value = decide (ℕ-discrete a b)
+        where
+          decide : Dec (a ≡ b) → eqb a b ≡ formed-alike (at vs a) (at vs b)
+          decide (yes e) = eq-eqb a b e ∙ sym (is-so _ (subst (λ (x : ℕ). T (formed-alike (at vs a) (at vs x))) e (formed-alike-refl (at vs a))))
+          decide (no d) = ne-eqb a b d ∙ sym (not-so _ (λ u. d (one-number t f valid a b h k (formed-alike→eq _ _ u))))
+
+      go : (n x y z : Bool) → x ≡ y → n ≡ alike (likeness y z) → likeness x n ≡ likeness y z
+      go n x true z e q = ap (λ (b : Bool). likeness b n) e
+      go n x false true e q = ap (λ (b : Bool). likeness b n) e ∙ ap (likeness false) q
+      go n x false false e q = ap (λ (b : Bool). likeness b n) e ∙ ap (likeness false) q
+
+  -- two forms of one number: an integer and a float
+  pub two-forms : (a b : ℕ) → a < valueCount t → b < valueCount t → reason (like m (at (tableOf t) a) (at (tableOf t) b)) ≡ 2
+      → ((at (tableOf t) a .kind ≡ 3) × (at (tableOf t) b .kind ≡ 4)) ⊎ ((at (tableOf t) a .kind ≡ 4) × (at (tableOf t) b .kind ≡ 3))
+  unfolding vs
+  two-forms a b h k e =
+      let p = said-number m (at vs a) (at vs b) .0 e in
+      go (p .1 .0) (as-number m (at vs a) (p .1 .0) (value-formed t f valid a h) (p .1 .1)) (as-number m (at vs b) (p .1 .0) (value-formed t f valid b k) (p .1 .2))
+      (λ q. p .0 (ap (λ (x : ℕ). at vs x .kind) q, ap (λ (x : ℕ). at vs x .bytes) q))
+      (means-same m (at vs a) (at vs b) (by-number (p .1 .0) (p .1 .1) (p .1 .2)))
+    where
+      go : (n : ℕ) → Number m (at vs a) n → Number m (at vs b) n → (a ≡ b → ⊥) → T (same-key m (at vs a) (at vs b))
+          → ((at vs a .kind ≡ 3) × (at vs b .kind ≡ 4)) ⊎ ((at vs a .kind ≡ 4) × (at vs b .kind ≡ 3))
+      go n (whole-number p i) (whole-number q j) d s = absurd (d (alone a b h k (p ∙ sym q) s))
+      go n (whole-number p i) (counted-float q j) d s = inl (p, q)
+      go n (counted-float p i) (whole-number q j) d s = inr (p, q)
+      go n (counted-float p i) (counted-float q j) d s = absurd (d (alone a b h k (p ∙ sym q) s))

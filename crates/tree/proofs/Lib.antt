@@ -9,6 +9,7 @@ pub mod WholeLaws
 pub mod KeyNumbers
 pub mod Names
 pub mod ValidTable
+pub mod KeyReasons
 pub mod KeyTable
 pub mod KeySamples
 pub mod Tables

@@ -1,4 +1,4 @@
--- 01, "Keys": which numbers values stand for, and when two of them are the same key. Assumes nothing.
+-- 01, "Keys", and 02, §11: which numbers values stand for, when two of them are the same key, and why. Assumes nothing.
 use Prim.Native.Nat.{ℕ, zero, suc, _+_, _*_, _/_, _%_, _^_}
 use mathlib.Core.Bool.{Bool, true, false, _&&_}
 use mathlib.Core.List.{List}
@@ -7,6 +7,8 @@ use lib.Dec.{eqb, ltb}
 use Rattle.tree.specs.Bytes.{same-bytes}
 use Rattle.tree.specs.declared.Mode.{Mode}
 use Rattle.tree.specs.declared.Mode.the-variants.{Ordinary, Strict}
+use Rattle.tree.specs.declared.Likeness.{Likeness}
+use Rattle.tree.specs.declared.Likeness.the-variants.{Different, SameForm, SameNumber}
 use Rattle.tree.specs.Values.{Value, Sense, a-name, a-text, an-integer, a-float, unknown, sense, magnitude, little}
 
 -- A binary64 with the sign clear, from its 64 bits: 52 bits of digits, above them the exponent's field.
@@ -59,10 +61,6 @@ number-as m unknown bs = none
 abbrev pub number : Mode → Value → Option ℕ
 number m v = number-as m (sense (v .kind)) (v .bytes)
 
--- the key test: different, the same form, the same number in two forms
-pub data Likeness : Type 0 where
-  different same-form same-number : Likeness
-
 abbrev pub formed-alike : Value → Value → Bool
 formed-alike v w = eqb (v .kind) (w .kind) && same-bytes (v .bytes) (w .bytes)
 
@@ -71,18 +69,25 @@ same-numbers none o = false
 same-numbers (some n) none = false
 same-numbers (some n) (some k) = eqb n k
 
+-- 02, §11: "The key test should say: different, same form, or same number in two forms."
 abbrev pub likeness : Bool → Bool → Likeness
-likeness true b = same-form
-likeness false true = same-number
-likeness false false = different
+likeness true b = SameForm
+likeness false true = SameNumber
+likeness false false = Different
 
 abbrev pub like : Mode → Value → Value → Likeness
 like m v w = likeness (formed-alike v w) (same-numbers (number m v) (number m w))
 
 abbrev pub alike : Likeness → Bool
-alike different = false
-alike same-form = true
-alike same-number = true
+alike Different = false
+alike SameForm = true
+alike SameNumber = true
 
 abbrev pub same-key : Mode → Value → Value → Bool
 same-key m v w = alike (like m v w)
+
+-- 02, §11: "the first word of the third span is then 1 or 2"; keys that are different have no record, and no number
+abbrev pub reason : Likeness → ℕ
+reason Different = 0
+reason SameForm = 1
+reason SameNumber = 2

@@ -1,15 +1,17 @@
-// Key equality: 01's "Keys", in both modes. Cost: a walk over the values, and one more for each float that counts as an integer;
-// 1 KiB of stack for the table of 512 numbers.
+// The key test: 01's "Keys" and 02's §11, in both modes. Cost: for the table a walk over the values, and one more for each float that
+// counts as an integer; 1 KiB of stack for its 512 numbers. A test looks into it twice.
 ghost use mathlib.Core.Path.{_≡_};
 ghost use Prim.Native.Nat.{_<_, _≤_, _^_};
 ghost use lib.Dec.{eqb};
+ghost use lib.ListN.{getD};
 ghost use Rattle.tree.specs.Bytes.{bytesFrom, nodeCount, valueCount};
 ghost use Rattle.tree.specs.Search.{lowest};
 ghost use Rattle.tree.specs.Values.{magnitude, valueFrom, offset};
 ghost use Rattle.tree.specs.Keys.{bound, whole};
 ghost use Rattle.tree.specs.code.Offsets.{capped};
 ghost use Rattle.tree.specs.Table.{tableOf};
-ghost use Rattle.tree.specs.code.Numbers.{integer-is, is-integer, below-or, key-number, KeyNumbers};
+ghost use Rattle.tree.specs.code.Numbers.{integer-is, is-integer, below-or, key-number, KeyNumbers, like-by};
+use crate::Likeness;
 use crate::Mode;
 use crate::bytes::byte_at;
 use crate::bytes::narrow;
@@ -17,6 +19,7 @@ use crate::bytes::node_count;
 use crate::bytes::u16_at;
 use crate::bytes::u64_at;
 use crate::bytes::value_count;
+use crate::bytes::widen;
 
 // The floats that count as integers are whole and below this.
 fn bound_of(mode: Mode) -> usize
@@ -144,4 +147,27 @@ pub fn key_numbers(t: &[u8], mode: Mode) -> [u16; 512]
         v += 1;
     }
     keys
+}
+
+// What stands for value v as a key, by the table.
+fn key_number(numbers: &[u16], v: usize) -> usize
+    ensures { λ r. ⌜ r ≡ getD (now (numbers .entry)) v 0 ⌝ }
+{
+    if v < numbers.len() {
+        return widen(numbers[v]);
+    }
+    0
+}
+
+// The key test of values a and b, by the table of key_numbers: a valid file has no value twice, so the same form is one number.
+pub fn like(numbers: &[u16], a: usize, b: usize) -> Likeness
+    ensures { λ r. ⌜ r ≡ like-by (now (numbers .entry)) a b ⌝ }
+{
+    if a == b {
+        return Likeness::SameForm;
+    }
+    if key_number(numbers, a) == key_number(numbers, b) {
+        return Likeness::SameNumber;
+    }
+    Likeness::Different
 }

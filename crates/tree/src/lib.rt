@@ -5,6 +5,7 @@
 ghost use mathlib.Core.Path.{_≡_};
 ghost use Prim.Native.Nat.{_≤_};
 ghost use Rattle.tree.specs.Judge.{numberOf, placeOf, marked, limits, judged};
+ghost use Rattle.tree.specs.Keys.{reason};
 ghost use Rattle.tree.specs.Table.{listed};
 ghost use Rattle.tree.specs.code.Stages.{judged9, judged8, judged7, judged6, judged5, judged4, judged3, None5, None6};
 use bytes::bytes_are;
@@ -96,6 +97,26 @@ pub enum Judged {
 pub enum Mode {
     Ordinary,
     Strict,
+}
+
+// What the key test says of two keys. Specs' reason gives 02's numbers.
+pub enum Likeness {
+    Different,
+    SameForm,
+    SameNumber,
+}
+
+impl Likeness {
+    // 02's number, 1 or 2; 0 where there is none.
+    pub fn reason(self) -> u32
+        ensures { λ r. ⌜ r ≡ reason self ⌝ }
+    {
+        match self {
+            Likeness::Different => 0,
+            Likeness::SameForm => 1,
+            Likeness::SameNumber => 2,
+        }
+    }
 }
 
 fn refused(why: Refusal) -> Judged

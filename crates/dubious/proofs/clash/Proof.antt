@@ -1,4 +1,3 @@
-use native.Mathlib.Omega.{arith}
 use mathlib.Core.Path.{sym, _∙_}
 use Rattle.answer.specs.Page.{page}
 use Rattle.answer.specs.Note.{recOf, spanOf, valueOf}
@@ -9,6 +8,7 @@ use Rattle.dubious.proofs.clash.Tie as tie
 use Rattle.dubious.proofs.clash.Reads as reads
 use Rattle.dubious.proofs.clash.Lts as lts
 use Rattle.answer.proofs.put.Reads as put-reads
+use Rattle.dubious.proofs.likeness.Reads as likeness-reads
 use Rattle.dubious.proofs.previous.Reads as previous-reads
 use Rattle.dubious.proofs.to_key.Reads as to-key-reads
 
@@ -19,6 +19,10 @@ to-key-requires c κs = search needs
 -- src/lib.rt:98:13
 previous-requires : tie.Need-previous-requires
 previous-requires c κs = search needs
+
+-- src/lib.rt:109:42
+likeness-requires : tie.Need-likeness-requires
+likeness-requires c κs = search needs
 
 -- src/lib.rt:100:13
 put-requires : tie.Need-put-requires
@@ -32,7 +36,7 @@ same-length c = search needs
 returns : tie.Need-returns
 unfolding recOf spanOf valueOf
 returns c =
-    clash-put (c .before .before .before .before .before .before .before .before .before .before .before .args .numbers .now) (c .before .before .before .before .before .before .before .before .before .before .before .args .t .now) (c .before .before .before .before .before .before .before .before .before .before .before .args .i) (c .before .before .before .before .before .before .before .before .before .before .before .args .j) (page (c .before .before .before .before .before .before .before .before .before .before .before .args .out .now) (c .before .before .before .before .before .before .before .before .before .before .before .args .s)) (c .before .before .before .before .before .previous .result) (c .before .before .before .before .before .previous .ensures) (c .before .before .before .before .if2 .taken) (sym (c .before .before .before .before .before .before .before .to-key .ensures) ∙ c .before .before .before .before .before .before .if1 .taken) (c .before .before .put .ensures)
+    clash-put (c .before .before .before .before .before .before .before .before .before .before .before .before .args .numbers .now) (c .before .before .before .before .before .before .before .before .before .before .before .before .args .t .now) (c .before .before .before .before .before .before .before .before .before .before .before .before .args .i) (c .before .before .before .before .before .before .before .before .before .before .before .before .args .j) (page (c .before .before .before .before .before .before .before .before .before .before .before .before .args .out .now) (c .before .before .before .before .before .before .before .before .before .before .before .before .args .s)) (c .before .before .before .before .before .before .previous .result) (c .before .before .before .before .before .before .previous .ensures) (c .before .before .before .before .before .if2 .taken) (sym (c .before .before .before .before .before .before .before .before .to-key .ensures) ∙ c .before .before .before .before .before .before .before .if1 .taken) (rw (c .before .before .before .likeness .ensures) at (c .before .before .put .ensures))
 
 -- src/lib.rt:93:1
 returns-2 : tie.Need-returns-2
@@ -50,6 +54,7 @@ clash-spec =
     (tie.spec
     to-key-requires
     previous-requires
+    likeness-requires
     put-requires
     same-length
     returns

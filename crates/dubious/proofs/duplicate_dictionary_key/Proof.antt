@@ -6,8 +6,8 @@ use Rattle.tree.specs.Forest.{forestOf}
 use Rattle.tree.specs.code.Part.{Part}
 use Rattle.tree.proofs.Laws.{later, first, sized}
 use Rattle.rules.specs.Visit.{each}
-use Rattle.rules.specs.Dubious.{idle-at, dict-at, unsaid}
-use Rattle.dubious.specs.Scan.{keyed}
+use Rattle.rules.specs.Dubious.{idle-at, dict-at}
+use Rattle.tree.specs.code.Numbers.{like-by}
 use Rattle.answer.proofs.Flat.{Going, going, going-on, going-end}
 use Rattle.answer.proofs.Each.{each-next, each-past}
 use Rattle.dubious.proofs.duplicate_dictionary_key.Statement.{statement}
@@ -17,7 +17,7 @@ use Rattle.dubious.proofs.duplicate_dictionary_key.Lts as lts
 use Rattle.dubious.proofs.expr.Reads as expr-reads
 
 abbrev Inv-loop : tie.InvT-loop
-Inv-loop t numbers n out₀ r₀ i₀ out r i = Part t i n × Going out₀ r₀ (each (dict-at (keyed numbers) unsaid) (forestOf t 0 n)) out r (each (dict-at (keyed numbers) unsaid) (forestOf t i n))
+Inv-loop t numbers n out₀ r₀ i₀ out r i = Part t i n × Going out₀ r₀ (each (dict-at (like-by numbers)) (forestOf t 0 n)) out r (each (dict-at (like-by numbers)) (forestOf t i n))
 
 abbrev μ-loop : tie.MeasureT-loop
 μ-loop t numbers n out₀ r₀ i₀ out r i = n - i
@@ -45,7 +45,7 @@ loop-less c =
 -- src/lib.rt:148:5
 loop-again : tie.Need-loop-again Inv-loop μ-loop
 loop-again c =
-    (later (c .before .before .before .before .before .loop .inv .0) (omega arith), going-on (c .before .before .before .before .before .loop .inv .1) _ _ _ _ (c .before .before .expr .ensures) (each-next (dict-at (keyed (c .before .before .before .before .before .before .before .before .before .args .numbers .now)) unsaid) (c .before .before .before .before .before .loop .inv .0) (c .before .before .before .before .loop-test .taken)))
+    (later (c .before .before .before .before .before .loop .inv .0) (omega arith), going-on (c .before .before .before .before .before .loop .inv .1) _ _ _ _ (c .before .before .expr .ensures) (each-next (dict-at (like-by (c .before .before .before .before .before .before .before .before .before .args .numbers .now))) (c .before .before .before .before .before .loop .inv .0) (c .before .before .before .before .loop-test .taken)))
 
 -- src/lib.rt:142:1
 same-length : tie.Need-same-length Inv-loop μ-loop
@@ -55,7 +55,7 @@ same-length c =
 -- src/lib.rt:142:1
 returns : tie.Need-returns Inv-loop μ-loop
 returns c =
-    going-end (c .before .loop .inv .1) (each-past (dict-at (keyed (c .before .before .before .before .before .args .numbers .now)) unsaid) (c .before .before .before .before .before .args .t .now) (c .before .loop .i) (c .before .before .before .before .before .args .n) (c .loop-test .left))
+    going-end (c .before .loop .inv .1) (each-past (dict-at (like-by (c .before .before .before .before .before .args .numbers .now))) (c .before .before .before .before .before .args .t .now) (c .before .loop .i) (c .before .before .before .before .before .args .n) (c .loop-test .left))
 
 pub duplicate-dictionary-key-spec : {M : Type 1} → statement M
 duplicate-dictionary-key-spec =

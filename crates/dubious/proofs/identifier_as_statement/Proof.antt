@@ -6,8 +6,7 @@ use Rattle.tree.specs.Forest.{forestOf}
 use Rattle.tree.specs.code.Part.{Part}
 use Rattle.tree.proofs.Laws.{later, first, sized}
 use Rattle.rules.specs.Visit.{each}
-use Rattle.rules.specs.Dubious.{idle-at, dict-at, unsaid}
-use Rattle.dubious.specs.Scan.{keyed}
+use Rattle.rules.specs.Dubious.{idle-at}
 use Rattle.answer.proofs.Flat.{Going, going, going-on, going-end}
 use Rattle.answer.proofs.Each.{each-next, each-past}
 use Rattle.dubious.proofs.identifier_as_statement.Statement.{statement}

@@ -2,6 +2,7 @@ use Rattle.json.specs.Text.{member}
 use Rattle.log.proofs.Shapes.{message-of-text}
 use Rattle.log.specs.Log.{message-of}
 use Rattle.log.specs.Words.{value-of}
+use Rattle.answer.specs.Note.{recFrom}
 use Rattle.tree.specs.Table.{tableOf}
 use Rattle.page.proofs.Pages.{then, retold}
 use native.Mathlib.Omega.{arith}
@@ -26,9 +27,9 @@ same-length c = search needs
 
 returns : tie.Need-returns
 returns c =
-    let w = c .before .before .before .before .before .before .before .before .before .before .before .before .before .before .before .args .w in
-    let o = value-of (tableOf (c .before .before .before .before .before .before .before .before .before .before .before .before .before .before .before .args .t .now)) (w .value) in
-    retold 1650 (member (message-of (w .code) o)) (then (c .before .before .before .before .before .before .before .before .before .before .raw .ensures) (then (c .before .before .before .before .before .before .phrase .ensures) (c .before .before .said .ensures))) (omega arith) (message-of-text (w .code) o)
+    let r = recFrom (c .before .before .before .before .before .before .before .before .before .before .before .before .before .before .before .args .w) in
+    let o = value-of (tableOf (c .before .before .before .before .before .before .before .before .before .before .before .before .before .before .before .args .t .now)) (r .spot .value) in
+    retold 1650 (member (message-of r o)) (then (c .before .before .before .before .before .before .before .before .before .before .raw .ensures) (then (c .before .before .before .before .before .before .phrase .ensures) (c .before .before .said .ensures))) (omega arith) (message-of-text r o)
 
 pub message-spec : {M : Type 1} → statement M
 message-spec =

@@ -9,9 +9,10 @@ use lib.ListN.{length, getD}
 use Rattle.tree.specs.Bytes.{valueCount, pick}
 use Rattle.tree.specs.Search.{lowest}
 use Rattle.tree.specs.Values.{Value, magnitude, little}
-use Rattle.tree.specs.Keys.{whole, counted}
+use Rattle.tree.specs.Keys.{whole, counted, likeness}
 use Rattle.tree.specs.Table.{tableOf, at, spells}
 use Rattle.tree.specs.declared.Mode.{Mode}
+use Rattle.tree.specs.declared.Likeness.{Likeness}
 
 -- a place, if it is below n
 abbrev pub below-or : ℕ → ℕ → ℕ → ℕ
@@ -52,3 +53,8 @@ key-number m vs v = lead vs v (float-number m (at vs v))
 -- a table of them for the value numbers below 512
 abbrev pub KeyNumbers : List ℕ → Mode → List ℕ → Type 0
 KeyNumbers t m table = (v : ℕ) → v < 512 → getD table v 0 ≡ key-number m (tableOf t) v
+
+-- 02, §11, by value numbers: the same form is one number, the same key one number in the table. proofs/KeyTable: of a valid file and
+-- its table this is what Keys' `like` says of the two values.
+unfoldable pub like-by : List ℕ → ℕ → ℕ → Likeness
+like-by table a b = likeness (eqb a b) (eqb (getD table a 0) (getD table b 0))

@@ -16,38 +16,18 @@ returns c =
     let h : 4 < a .kind = omega arith in
     retold 16 (λ rest. kind-word (a .kind) ++ rest) (nothing-wrote (a .out .now) (a .n)) (omega arith) (λ rest. rw (no-kind (a .kind) h))
 
-mul-begin : tie.Need-mul-begin
-mul-begin c = search needs
+slice-aggregate-word : tie.Need-slice-aggregate-word
+slice-aggregate-word c = search needs
 
-array-read-begin : tie.Need-array-read-begin
-array-read-begin c = search needs
+slice-aggregate-word-2 : tie.Need-slice-aggregate-word-2
+slice-aggregate-word-2 c = search needs
 
-add-end : tie.Need-add-end
-add-end c = search needs
-
-mul-end : tie.Need-mul-end
-mul-end c = search needs
-
-array-read-end : tie.Need-array-read-end
-array-read-end c = search needs
-
-sub-raw : tie.Need-sub-raw
-sub-raw c =
-    let h : c .before .before .before .args .kind ≤ 4 = omega arith in
-    kind-piece (c .before .before .before .args .kind) h .ordered
-
-part-raw-start : tie.Need-part-raw-start
-part-raw-start c =
-    let h : c .before .before .before .before .args .kind ≤ 4 = omega arith in
-    kind-piece (c .before .before .before .before .args .kind) h .ordered
-
-part-raw-end : tie.Need-part-raw-end
-part-raw-end c =
-    let h : c .before .before .before .before .args .kind ≤ 4 = omega arith in
-    kind-piece (c .before .before .before .before .args .kind) h .inside
-
-raw-requires : tie.Need-raw-requires
-raw-requires c κs = search needs
+word-requires : tie.Need-word-requires
+word-requires c κs =
+    let k = c .before .before .before .before .before .args .kind in
+    let h : k ≤ 4 = omega arith in
+    let p = kind-piece k h in
+    (omega arith, p .ordered, p .inside)
 
 same-length : tie.Need-same-length
 same-length c = search needs
@@ -56,21 +36,15 @@ returns-2 : tie.Need-returns-2
 returns-2 c =
     let k = c .before .before .before .before .before .before .before .before .args .kind in
     let h : k ≤ 4 = omega arith in
-    piece-wrote (letters kinds) (begins-from 0 kinds) k (kind-word k) 16 (kind-piece k h) (kind-short k) (c .before .before .raw .ensures)
+    piece-wrote (letters kinds) (begins-from 0 kinds) k (kind-word k) 16 (kind-piece k h) (kind-short k) (c .before .before .word .ensures)
 
 pub kind-word-spec : {M : Type 1} → statement M
 kind-word-spec =
     tie.close
     (tie.spec
     returns
-    mul-begin
-    array-read-begin
-    add-end
-    mul-end
-    array-read-end
-    sub-raw
-    part-raw-start
-    part-raw-end
-    raw-requires
+    slice-aggregate-word
+    slice-aggregate-word-2
+    word-requires
     same-length
     returns-2)

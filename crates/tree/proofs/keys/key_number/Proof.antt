@@ -1,0 +1,33 @@
+use mathlib.Core.Path.{sym}
+use borrow.Author.Needs.{needs}
+use Rattle.tree.proofs.Past.{byte-past}
+use Rattle.tree.proofs.keys.key_number.Statement.{statement}
+use Rattle.tree.proofs.keys.key_number.Tie as tie
+use Rattle.tree.proofs.keys.key_number.Reads as reads
+use Rattle.tree.proofs.keys.key_number.Lts as lts
+use Rattle.tree.proofs.bytes.widen.Reads as widen-reads
+
+-- src/keys.rt:157:22
+mul-widen : tie.Need-mul-widen
+mul-widen c = search needs
+
+-- src/keys.rt:157:22
+shared-slice-read-widen : tie.Need-shared-slice-read-widen
+shared-slice-read-widen c = search needs
+
+-- src/keys.rt:157:9
+widen-requires : tie.Need-widen-requires
+widen-requires c κs = search needs
+
+-- src/keys.rt:157:9
+returns : tie.Need-returns
+returns c = search needs
+
+-- src/keys.rt:153:1
+returns-2 : tie.Need-returns-2
+returns-2 c =
+    sym (byte-past (c .before .before .args .numbers .now) (c .before .before .args .v) (c .if1 .left))
+
+pub key-number-spec : {M : Type 1} → statement M
+key-number-spec =
+    tie.close (tie.spec mul-widen shared-slice-read-widen widen-requires returns returns-2)
