@@ -1,7 +1,7 @@
 // What a pass writes: records into a lent slice, and a tally of counts.
 // Every function here is total: a record for which there is no room is only counted, and a count stays at the largest usize.
 ghost use mathlib.Core.Path.{_≡_};
-ghost use Prim.Native.Nat.{ℕ, _<_};
+ghost use Prim.Native.Nat.{_<_};
 ghost use Rattle.tree.specs.Forest.{spotAt};
 ghost use Rattle.rules.specs.Record.{plainly};
 ghost use Rattle.rules.specs.Joined.{one-more, raise, no-tally};
@@ -26,7 +26,7 @@ pub enum Place {
     Reason(Likeness),
 }
 
-// A record by the nodes whose spans and value it has.
+// A record: its code, the node that it is at, and what its value, second and third span come from.
 pub struct Note {
     pub code: u32,
     pub at: usize,

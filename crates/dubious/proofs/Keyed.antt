@@ -1,11 +1,11 @@
--- In a valid file the numbers that stand for keys give the list of 01. Assumes nothing.
-use Prim.Native.Nat.{ℕ, _+_, _*_, _≤_, _<_}
+-- In a valid file the numbers that stand for keys give the list of 01 and 02, §11. Assumes nothing.
+use Prim.Native.Nat.{ℕ, _+_, _≤_, _<_}
 use native.Mathlib.Omega.{arith}
 use native.Mathlib.Decide.{ℕ-discrete}
-use mathlib.Core.Path.{_≡_, refl, sym, ap, ap₂, _∙_}
+use mathlib.Core.Path.{_≡_, refl, sym, ap, ap₂}
 use mathlib.Core.List.{List, [], _∷_, _++_}
-use mathlib.Core.Bool.{Bool, true, false, cond, _&&_, _||_}
-use lib.Dec.{T, eqb}
+use mathlib.Core.Bool.{Bool, true, false, cond, _&&_}
+use lib.Dec.{eqb}
 use lib.ListN.{length, getD}
 use borrow.Author.Tests.{ne-eqb}
 use Rattle.tree.specs.Bytes.{nodeCount, valueCount, kindAt, roleAt, sizeAt, valueAt}
@@ -97,7 +97,7 @@ part-fine {t} {f} s p = induct (λ i e. e ≤ nodeCount t → Fine (valueCount t
     more i e p lt u v n = rw (forest-node p lt) (fine-node (key-value s i (omega arith)) (u (omega (arith, ended p lt))) (v n))
 
 module _ (t : List ℕ) (f : Facts) (valid : judged t ≡ Valid f) (bytes : (k : ℕ) → getD t k 0 < 256) (m : Mode) (ns : List ℕ) (numbers : KeyNumbers t m ns) where
-  -- what the walks list is the list of 01
+  -- what the walks list is the list of 01 and 02, §11
   pub list-is : dubious-list m t ≡ dubious (like-by ns) (forestOf t 0 (f .nodes))
   unfolding dubious-list treeOf
   list-is =

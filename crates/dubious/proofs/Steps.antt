@@ -1,15 +1,13 @@
 -- What each step and return of the walks shows. Assumes nothing.
-use Prim.Native.Nat.{ℕ, zero, suc, _+_, _-_, _≤_, _<_}
+use Prim.Native.Nat.{ℕ, _+_, _-_, _≤_, _<_}
 use native.Mathlib.Omega.{arith}
-use native.Mathlib.Decide.{ℕ-discrete}
 use mathlib.Core.Path.{_≡_, refl, sym, ap, _∙_}
-use mathlib.Core.List.{List, [], _∷_, _++_, append-nil, append-assoc}
-use mathlib.Core.Bool.{Bool, true, false, cond, _&&_, _||_}
+use mathlib.Core.List.{List, [], _∷_, _++_, append-nil}
+use mathlib.Core.Bool.{Bool, true, false, cond, _&&_}
 use lib.Dec.{eqb, ltb}
-use lib.ListN.{length, getD}
-use borrow.Author.Tests.{eq-eqb, ne-eqb, lt-ltb, le-ltb}
+use borrow.Author.Tests.{ne-eqb, lt-ltb, le-ltb}
 use Rattle.tree.specs.Bytes.{kindAt, roleAt, sizeAt, valueAt, pick}
-use Rattle.tree.specs.Forest.{Spot, Head, Forest, none, node, spotAt, headAt, forestOf}
+use Rattle.tree.specs.Forest.{Spot, Head, Forest, node, spotAt, headAt, forestOf}
 use Rattle.tree.specs.code.Part.{Part, Subtree}
 use Rattle.tree.specs.declared.Likeness.{Likeness}
 use Rattle.tree.specs.declared.Likeness.the-variants.{Different, SameForm, SameNumber}
@@ -17,7 +15,7 @@ use Rattle.tree.specs.Keys.{alike}
 use Rattle.tree.specs.code.Numbers.{like-by}
 use Rattle.tree.specs.code.Find.{childOf}
 use Rattle.rules.specs.Record.{Rec, named-at, listed}
-use Rattle.rules.specs.Visit.{spot-at, each, kind-at}
+use Rattle.rules.specs.Visit.{spot-at, kind-at}
 use Rattle.rules.specs.Dubious.{keys, double, clash, against, doubles, dict-at, idle-at}
 use Rattle.tree.proofs.Laws.{sized, first, kids}
 use Rattle.answer.specs.Page.{Page, write, writes}

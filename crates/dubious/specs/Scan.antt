@@ -1,11 +1,11 @@
 -- What private functions promise: duplicate keys by the table of the numbers that stand for keys. Assumes nothing.
--- Nobody has to believe them: proofs/Keyed shows that of a valid file these are the keys of 01.
+-- Nobody has to believe them: proofs/Keyed shows that of a valid file these are the keys of 01 and 02, §11.
 use Prim.Native.Nat.{ℕ}
 use mathlib.Core.Bool.{Bool, _&&_, _||_}
 use mathlib.Core.List.{List, [], _∷_}
 use lib.Dec.{eqb, ltb}
 use Rattle.tree.specs.Bytes.{valueAt}
-use Rattle.tree.specs.Forest.{Spot, Head, Forest, spotAt, headAt, forestOf}
+use Rattle.tree.specs.Forest.{Spot, Head, Forest, spotAt, forestOf}
 use Rattle.tree.specs.code.Numbers.{like-by}
 use Rattle.rules.specs.Record.{Rec, listed}
 use Rattle.rules.specs.Dubious.{keys, double, against}

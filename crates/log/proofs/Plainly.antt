@@ -1,4 +1,4 @@
--- The words of messages stand for themselves in a string's text, and a number that is no code or kind has none. Assumes nothing.
+-- The words of messages stand for themselves in a string's text, and a number that is no code, reason or kind has none. Assumes nothing.
 use Prim.Native.Nat.{ℕ, _<_}
 use native.Mathlib.Omega.{arith}
 use Prim.Native.String.{String}

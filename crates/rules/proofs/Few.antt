@@ -20,7 +20,7 @@ use Rattle.rules.specs.Names.{names, told, names-list}
 use Rattle.rules.specs.Record.{Rec, listed, plainly, named-at, with-value}
 use Rattle.rules.specs.Visit.{has, look, last-of, spot-at, each as each-node, kind-at}
 use Rattle.rules.specs.Order.{Bind, one, several, nothing, bind-of, fail-name}
-use Rattle.rules.specs.Flow.{flow, Loads, loads-part, loads, effect, effect-part, effect-walk, tail-part, tail, redundant-part, redundant-walk, below-root, Reached, Course, in-list, one-by-one, only, on-through, after-stop, reached-part, reached, Return, everything, the-body, the-rest, returns-part, returns, ends, missing, missing-expression, bare-recs, check-for, check, reason, returns-walk, none-name, flow-list}
+use Rattle.rules.specs.Flow.{flow, Loads, loads-part, loads, effect, effect-part, effect-walk, tail-part, tail, redundant-part, redundant-walk, below-root, Reached, Course, in-list, one-by-one, only, after-stop, reached-part, reached, Return, everything, the-body, the-rest, returns-part, returns, ends, missing, missing-expression, bare-recs, check-for, check, reason, returns-walk, none-name, flow-list}
 use Rattle.rules.specs.Incompatible.{check-at, type-check, Deed, defines, repeats, deed-part, defined-names, self-set, Top, assigning, modifying, defining, loading, holding, aside, tops, top-part, deeds, First, first-of, times, defined, may-repeat, repeated, incompatible, once, type-name, five-types, spells-one, incompatible-list}
 use Rattle.rules.specs.Dubious.{seen-with, keys, clash, against, doubles, dict-at, idle-at, dubious, dubious-list}
 use Rattle.rules.specs.code.Marks.{nodes}

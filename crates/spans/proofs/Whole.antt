@@ -1,6 +1,5 @@
 -- Every record of a valid file's list makes sense. Assumes nothing.
 use Prim.Native.Nat.{ℕ}
-use native.Mathlib.Omega.{arith}
 use mathlib.Core.Path.{_≡_}
 use mathlib.Core.List.{List, _++_}
 use Rattle.tree.specs.Forest.{treeOf}

@@ -19,7 +19,7 @@ use Rattle.base.proofs.Bools.{or-cases, or-left, or-right}
 use Rattle.tree.specs.Values.{Value, Sense, a-name, a-text, an-integer, a-float, unknown, sense, onward, magnitude, little, no-zero-first, form-as, formed, bytes-before, by-length, precedes}
 use Rattle.tree.specs.declared.Mode.{Mode}
 use Rattle.tree.specs.Bytes.{same-bytes}
-use Rattle.tree.specs.Keys.{scaled, grains, finite, whole, counts, only-if, counted, number-as, number, formed-alike, same-numbers, likeness, like, alike, same-key}
+use Rattle.tree.specs.Keys.{scaled, grains, finite, whole, counts, only-if, counted, number-as, number, formed-alike, same-numbers, likeness, alike, same-key}
 
 -- what a list of bytes is to a law that must know it
 abbrev pub all-bytes : List ℕ → Bool

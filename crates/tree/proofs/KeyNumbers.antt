@@ -1,4 +1,4 @@
--- The numbers that stand for keys: how the code finds them, and that in a valid file they decide which keys are the same. Assumes nothing.
+-- The numbers that stand for keys: how the code finds them, and the key test by their table. Assumes nothing.
 use Prim.Native.Nat.{ℕ, _+_, _≤_, _<_}
 use native.Mathlib.Omega.{arith}
 use mathlib.Core.Path.{_≡_, refl, sym, ap, _∙_}

@@ -1,16 +1,13 @@
 -- 02, §11: what the key test says, in each mode and of all values. Assumes nothing.
 use Prim.Native.Nat.{ℕ, _≤_}
 use native.Mathlib.Omega.{arith}
-use mathlib.Core.Path.{_≡_, refl, sym, ap, ap₂, subst, _∙_}
-use mathlib.Core.List.{List}
+use mathlib.Core.Path.{_≡_, refl, sym, ap, ap₂, subst}
 use mathlib.Core.Logic.{_↔_}
 use mathlib.Core.Bool.{Bool, true, false, cond}
 use mathlib.Core.Option.{Option, none, some}
 use lib.Dec.{T, eqb, leb, le→leb}
-use Rattle.tree.specs.Values.{Value, Sense, a-name, a-text, sense}
+use Rattle.tree.specs.Values.{Value, Sense, a-name, a-text}
 use Rattle.tree.specs.declared.Mode.{Mode}
-use Rattle.tree.specs.declared.Likeness.{Likeness}
-use Rattle.tree.specs.declared.Likeness.the-variants.{Different, SameForm, SameNumber}
 use Rattle.tree.specs.Keys.{number-as, number, formed-alike, same-numbers, likeness, like, alike, same-key, reason}
 use Rattle.tree.proofs.KeyLaws.{value-path, formed-alike→eq, formed-alike-refl, numbers-of, numbers-same}
 
@@ -72,7 +69,7 @@ like-sym m v w =
     (both-ways (same-numbers (number m v) (number m w)) (same-numbers (number m w) (number m v))
     (number-turned (number m v) (number m w)) (number-turned (number m w) (number m v)))
 
--- "identifiers", and strings and bytes too: 1 only
+-- identifiers, strings and bytes: 1 only
 no-number : (m : Mode) (v : Value) → v .kind ≤ 2 → number m v ≡ none
 no-number m v h = go (eqb (v .kind) 0) (leb (v .kind) 2) (le→leb (v .kind) 2 h) _
   where

@@ -1,4 +1,5 @@
--- In a valid file two keys are the same exactly if the numbers that stand for them are. Assumes nothing.
+-- In a valid file the key test is decided by value numbers and the numbers that stand for keys; two forms of one number are an integer
+-- and a float. Assumes nothing.
 use Prim.Native.Nat.{ℕ, _+_, _≤_, _<_}
 use native.Mathlib.Omega.{arith}
 use native.Mathlib.Decide.{decLt, ℕ-discrete}

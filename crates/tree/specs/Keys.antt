@@ -86,7 +86,7 @@ alike SameNumber = true
 abbrev pub same-key : Mode → Value → Value → Bool
 same-key m v w = alike (like m v w)
 
--- 02, §11: "the first word of the third span is then 1 or 2"; keys that are different have no record, and no number
+-- 02, §11: "the first word of the third span is then 1 or 2"; different keys have no record, which would show their 0
 abbrev pub reason : Likeness → ℕ
 reason Different = 0
 reason SameForm = 1

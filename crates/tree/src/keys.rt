@@ -1,5 +1,5 @@
 // The key test: 01's "Keys" and 02's §11, in both modes. Cost: for the table a walk over the values, and one more for each float that
-// counts as an integer; 1 KiB of stack for its 512 numbers. A test looks into it twice.
+// counts as an integer; 1 KiB of stack for its 512 numbers. A test looks into it at most twice.
 ghost use mathlib.Core.Path.{_≡_};
 ghost use Prim.Native.Nat.{_<_, _≤_, _^_};
 ghost use lib.Dec.{eqb};
@@ -149,8 +149,8 @@ pub fn key_numbers(t: &[u8], mode: Mode) -> [u16; 512]
     keys
 }
 
-// What stands for value v as a key, by the table.
-fn key_number(numbers: &[u16], v: usize) -> usize
+// The table's number for value v; 0 past its end.
+fn entry_of(numbers: &[u16], v: usize) -> usize
     ensures { λ r. ⌜ r ≡ getD (now (numbers .entry)) v 0 ⌝ }
 {
     if v < numbers.len() {
@@ -159,14 +159,14 @@ fn key_number(numbers: &[u16], v: usize) -> usize
     0
 }
 
-// The key test of values a and b, by the table of key_numbers: a valid file has no value twice, so the same form is one number.
+// The key test of values a and b, by the table of key_numbers: a valid file has no value twice, so the same form is one value number.
 pub fn like(numbers: &[u16], a: usize, b: usize) -> Likeness
     ensures { λ r. ⌜ r ≡ like-by (now (numbers .entry)) a b ⌝ }
 {
     if a == b {
         return Likeness::SameForm;
     }
-    if key_number(numbers, a) == key_number(numbers, b) {
+    if entry_of(numbers, a) == entry_of(numbers, b) {
         return Likeness::SameNumber;
     }
     Likeness::Different

@@ -1,12 +1,10 @@
 use native.Mathlib.Omega.{arith}
-use borrow.Author.Needs.{needs}
-use Prim.Native.Nat.{ℕ, _+_, _-_, _≤_}
-use mathlib.Core.Path.{_≡_, refl, sym, ap, _∙_}
+use Prim.Native.Nat.{_-_}
 use Rattle.tree.specs.Forest.{forestOf}
 use Rattle.tree.specs.code.Part.{Part}
 use Rattle.tree.proofs.Laws.{later, first, sized}
 use Rattle.rules.specs.Visit.{each}
-use Rattle.rules.specs.Dubious.{idle-at, dict-at}
+use Rattle.rules.specs.Dubious.{dict-at}
 use Rattle.tree.specs.code.Numbers.{like-by}
 use Rattle.answer.proofs.Flat.{Going, going, going-on, going-end}
 use Rattle.answer.proofs.Each.{each-next, each-past}

@@ -1,7 +1,5 @@
 use native.Mathlib.Omega.{arith}
-use borrow.Author.Needs.{needs}
-use Prim.Native.Nat.{ℕ, _+_, _-_, _≤_}
-use mathlib.Core.Path.{_≡_, refl, sym, ap, _∙_}
+use Prim.Native.Nat.{_-_}
 use Rattle.tree.specs.Forest.{forestOf}
 use Rattle.tree.specs.code.Part.{Part}
 use Rattle.tree.proofs.Laws.{later, first, sized}

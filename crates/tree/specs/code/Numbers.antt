@@ -54,7 +54,7 @@ key-number m vs v = lead vs v (float-number m (at vs v))
 abbrev pub KeyNumbers : List ℕ → Mode → List ℕ → Type 0
 KeyNumbers t m table = (v : ℕ) → v < 512 → getD table v 0 ≡ key-number m (tableOf t) v
 
--- 02, §11, by value numbers: the same form is one number, the same key one number in the table. proofs/KeyTable: of a valid file and
--- its table this is what Keys' `like` says of the two values.
+-- 02, §11, by value numbers: the same form is one value number, the same key one number in the table. proofs/KeyTable: of a valid file
+-- and its table this is what Keys' `like` says of the two values.
 unfoldable pub like-by : List ℕ → ℕ → ℕ → Likeness
 like-by table a b = likeness (eqb a b) (eqb (getD table a 0) (getD table b 0))

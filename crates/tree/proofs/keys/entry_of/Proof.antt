@@ -1,10 +1,10 @@
 use mathlib.Core.Path.{sym}
 use borrow.Author.Needs.{needs}
 use Rattle.tree.proofs.Past.{byte-past}
-use Rattle.tree.proofs.keys.key_number.Statement.{statement}
-use Rattle.tree.proofs.keys.key_number.Tie as tie
-use Rattle.tree.proofs.keys.key_number.Reads as reads
-use Rattle.tree.proofs.keys.key_number.Lts as lts
+use Rattle.tree.proofs.keys.entry_of.Statement.{statement}
+use Rattle.tree.proofs.keys.entry_of.Tie as tie
+use Rattle.tree.proofs.keys.entry_of.Reads as reads
+use Rattle.tree.proofs.keys.entry_of.Lts as lts
 use Rattle.tree.proofs.bytes.widen.Reads as widen-reads
 
 -- src/keys.rt:157:22
@@ -28,6 +28,6 @@ returns-2 : tie.Need-returns-2
 returns-2 c =
     sym (byte-past (c .before .before .args .numbers .now) (c .before .before .args .v) (c .if1 .left))
 
-pub key-number-spec : {M : Type 1} → statement M
-key-number-spec =
+pub entry-of-spec : {M : Type 1} → statement M
+entry-of-spec =
     tie.close (tie.spec mul-widen shared-slice-read-widen widen-requires returns returns-2)
