@@ -16,8 +16,8 @@ LONGEST = 11 + 1024 * 16 + 512 * (3 + 255) + 512 * 2
 LISTINGS = ROOT / "examples" / "listings.txt"
 HEAD = """\
 # Listings of the sample trees and of the tree of examples/log.py: by the Rust, and with --strict by document 01's rules as
-# compare/ has them, since the Rust has no strict keys. The reasons of equal keys (the last two numbers of code 16) are the rules'
-# too. Written by `examples/check --write`.
+# compare/ has them, since the Rust has no strict keys. The reasons of equal keys (the seventh and eighth number of code 16) and the
+# nodes (the last two numbers of each record) are the rules' too. Written by `examples/check --write`.
 """
 
 
@@ -59,9 +59,10 @@ def lists(path):
     return answers(path.read_bytes())
 
 
-def without_reasons(listing):
-    """A listing, of code 16 the first six numbers: the Rust, and lists of document 01 alone, say no more of it."""
-    return re.sub(rb"^(16(?: \d+){5}) \d+ \d+$", rb"\1", listing, flags=re.MULTILINE)
+def first_eight(listing):
+    """A listing, of each record the eight numbers of document 01, of code 16 the six before the reason."""
+    lines = re.sub(rb"^(\d+(?: \d+){7})(?: \d+)*$", rb"\1", listing, flags=re.MULTILINE)
+    return re.sub(rb"^(16(?: \d+){5}) \d+ \d+$", rb"\1", lines, flags=re.MULTILINE)
 
 
 # examples/listings.txt: a line `$ NAME` or `$ --strict NAME`, then the listing.

@@ -158,7 +158,7 @@ def result(numbers, level, index, values):
 
 
 def log(tree, records):
-    """The log of a valid tree whose list is these records of eight numbers."""
+    """The log of a valid tree whose list is these records; of nodes a log says nothing."""
     table, values = codes(), values_of(tree)
     present = sorted({numbers[0] for numbers in records})
     results = [result(r, LEVELS[table[r[0]][1]], present.index(r[0]), values) for r in records]

@@ -29,22 +29,24 @@
 extern "C" {
 #endif
 
-/* Version 2.0.0 of this header, as major * 10000 + minor * 100 + patch. Major goes up where the layout of a call, a record or a
+/* Version 3.0.0 of this header, as major * 10000 + minor * 100 + patch. Major goes up where the layout of a call, a record or a
  * report changes, or a number gets another meaning, so that a program has to be changed; minor where a call, a code or a refusal
  * is added or a size below grows, so that it has to be compiled anew at most; patch with any other change. */
-#define YUDRONKHA_VERSION 20000
+#define YUDRONKHA_VERSION 30000
 
 /* Sizes, in elements of each room. */
 #define YUDRONKHA_TREE_BYTES_MOST 149515 /* no valid tree is longer; a longer one gets its refusal like any other bytes */
 #define YUDRONKHA_WORK_WORDS 32768       /* work room that a call needs */
-#define YUDRONKHA_RECORD_WORDS 8         /* words of one record */
-#define YUDRONKHA_RECORDS_MOST 10240     /* no valid tree has more records: with room for these, 11 is never answered */
+#define YUDRONKHA_RECORD_WORDS 10        /* words of one record */
+#define YUDRONKHA_RECORDS_MOST 10240     /* no valid tree has more records: with room for these, which is 102,400 words or 409,600
+                                            bytes, 11 is never answered */
 #define YUDRONKHA_CODES 17               /* codes are 1 to 17 */
 #define YUDRONKHA_NAME_BYTES 26          /* the longest short name of a code */
 #define YUDRONKHA_REPORT_WORDS 18        /* a whole report: word 0, then one word for each code */
 #define YUDRONKHA_SARIF_REPORT_WORDS 19  /* a log's report: the same words, then the log's bytes */
 #define YUDRONKHA_REPORT_BYTES 18        /* the word of a log's report that has them */
 #define YUDRONKHA_NO_VALUE 65535         /* a record's value number where it has none */
+#define YUDRONKHA_NO_NODE 65535          /* a record's second node where it has none */
 
 /* A log of so many records has at most so many bytes. */
 #define YUDRONKHA_LOG_BYTES(records) (1617 + 2222 * (size_t)(records))
@@ -52,7 +54,7 @@ extern "C" {
 /* Stack to keep free for one call, in bytes: measured on trees of depth 48, not proved (docs/SPEED.md). yudronkha_version,
  * yudronkha_severity and yudronkha_short_name take under a kilobyte. */
 #define YUDRONKHA_STACK_BYTES 1048576       /* yudronkha_lint, either keys; the most seen is 586,568 */
-#define YUDRONKHA_SARIF_STACK_BYTES 1572864 /* yudronkha_sarif, which makes its list there, too; the most seen is 918,600 */
+#define YUDRONKHA_SARIF_STACK_BYTES 1572864 /* yudronkha_sarif, which makes its list there, too; the most seen is 1,000,520 */
 
 /* What yudronkha_lint and yudronkha_sarif return: 0, or the number of the one refusal. Where several hold, the lowest number is
  * given, at its lowest place. The place stands in report[0]. */
@@ -74,9 +76,11 @@ enum yudronkha_number {
 };
 
 /* The code of a record, its word 0; yudronkha_severity and yudronkha_short_name say more of one.
- * The value, and the second and third span, are said where a record has them. */
+ * Node and first span are those of what the record is at. The value, and the second and third span, are said where a record has
+ * them; the second node is that of the second span. */
 enum yudronkha_code {
-    /* names; value: the name */
+    /* names; at a node that holds the name (an identifier, a target, a parameter or a loaded name); value: the name. Where several
+     * nodes share span and name, the node is the one of them that document 01's names walk uses or sets first */
     YUDRONKHA_UNUSED_LOAD = 1,
     YUDRONKHA_UNUSED_ASSIGN = 2,
     YUDRONKHA_UNUSED_ARGUMENT = 3,
@@ -84,23 +88,25 @@ enum yudronkha_code {
     YUDRONKHA_USING_UNDEFINED = 5,
     YUDRONKHA_USING_MAYBE_UNDEFINED = 6,
     /* flow */
-    YUDRONKHA_MISSING_RETURN_EXPRESSION = 7, /* value: the def's name; second: the def; third: why it wants a value */
-    YUDRONKHA_MISSING_RETURN = 8,            /* at the def; value: its name; second: why it wants a value */
-    YUDRONKHA_UNREACHABLE = 9,
-    YUDRONKHA_REDUNDANT_RETURN = 10,
-    YUDRONKHA_REDUNDANT_CONTINUE = 11,
-    YUDRONKHA_MISPLACED_LOAD = 12,
-    YUDRONKHA_NO_EFFECT = 13,
+    YUDRONKHA_MISSING_RETURN_EXPRESSION = 7, /* at the return; value: the def's name; second: the def; third: why it wants a value */
+    YUDRONKHA_MISSING_RETURN = 8,            /* at the def; value: its name; second: why it wants a value, its type or a return */
+    YUDRONKHA_UNREACHABLE = 9,               /* at the statement */
+    YUDRONKHA_REDUNDANT_RETURN = 10,         /* at the return */
+    YUDRONKHA_REDUNDANT_CONTINUE = 11,       /* at the continue */
+    YUDRONKHA_MISPLACED_LOAD = 12,           /* at the load */
+    YUDRONKHA_NO_EFFECT = 13,                /* at the expression */
     /* incompatible */
-    YUDRONKHA_INCOMPATIBLE_TYPE_CHECK = 14,    /* value: the type's name */
+    YUDRONKHA_INCOMPATIBLE_TYPE_CHECK = 14,    /* at the comparison; value: the type's name */
     YUDRONKHA_DUPLICATE_TOP_LEVEL_ASSIGN = 15, /* at the later name; value: the name; second: the name as first defined */
     /* dubious */
     YUDRONKHA_DUPLICATE_KEY = 16,          /* at the previous equal key; value and second: the later key; no third, but a reason */
-    YUDRONKHA_IDENTIFIER_AS_STATEMENT = 17 /* value: the name */
+    YUDRONKHA_IDENTIFIER_AS_STATEMENT = 17 /* at the identifier; value: the name */
 };
 
 /* The words of a record, by position. A second or third span that a record doesn't have is 0 0, but for code 16: its records have
- * a reason and 0 in place of a third span, which are no place of the script. */
+ * a reason and 0 in place of a third span, which are no place of the script. The last two words are numbers of nodes in the tree
+ * file, from 0 on, so that an editor goes to a node and needs no search for its span, which several nodes may have. Every record has
+ * a node; codes 7, 8, 15 and 16 have a second one. */
 enum yudronkha_word {
     YUDRONKHA_CODE = 0,
     YUDRONKHA_BEGIN = 1,
@@ -110,7 +116,9 @@ enum yudronkha_word {
     YUDRONKHA_SECOND_END = 5,
     YUDRONKHA_THIRD_BEGIN = 6,
     YUDRONKHA_THIRD_END = 7,
-    YUDRONKHA_REASON = 6 /* code 16 alone */
+    YUDRONKHA_NODE = 8,        /* the node warned */
+    YUDRONKHA_SECOND_NODE = 9, /* the node that the second span came from, or YUDRONKHA_NO_NODE */
+    YUDRONKHA_REASON = 6       /* code 16 alone */
 };
 
 /* Why the two keys of a record of code 16 are equal. No record has another reason. */
@@ -169,7 +177,7 @@ size_t yudronkha_lint_strict(const uint8_t *tree, size_t tree_len, uint16_t *wor
  * tree, work, answer  as above.
  * output, output_len  room for the log. After 0 it begins with report[YUDRONKHA_REPORT_BYTES] bytes of UTF-8, the last a line's end
  *                     and no zero byte after it; the bytes past them are as they were. A refusal writes none. The list is made on
- *                     the call's own stack (328 KB) and copied where all rooms suffice: 12 leaves the answer room as it was, too.
+ *                     the call's own stack (410 KB) and copied where all rooms suffice: 12 leaves the answer room as it was, too.
  * report, report_len  as above, and in word YUDRONKHA_REPORT_BYTES the bytes of the log; after a refusal 0. A whole report has
  *                     YUDRONKHA_SARIF_REPORT_WORDS words; with fewer the words that fit are written.
  *

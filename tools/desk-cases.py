@@ -4,8 +4,8 @@
 Writes crates/desk/stdin and crates/desk/stdout, on which the gate runs the program desk: requests, and what must be answered.
 With --check it writes nothing, and says whether they are as it would write them. Exit status: 0, 1 they aren't, 2 wrong use.
 
-No answer comes from the program itself: lists are the Rust's (compare/recorded, examples/listings.txt), with the reasons of
-equal keys by document 01's rules as compare/ has them, or, with strict keys, those of the rules; logs are written by
+No answer comes from the program itself: lists are the Rust's (compare/recorded, examples/listings.txt), with nodes and the
+reasons of equal keys by document 01's rules as compare/ has them, or, with strict keys, those of the rules; logs are written by
 examples/log.py from these lists; the rest is counted here.
 """
 import pathlib
@@ -22,7 +22,7 @@ from export import Node, packed
 DESK = ROOT / "crates" / "desk"
 SCRIPTS = ROOT / "examples" / "scripts"
 RECORDED = ROOT / "compare" / "recorded"
-WORK, RECORD, CODES = 32768, 8, 17
+WORK, RECORD, CODES = 32768, 10, 17
 # More than the program has of any room, which is taken as all that it has.
 AMPLE = 2**32 - 1
 
@@ -128,7 +128,7 @@ def longest():
     tree = packed(Node(8, (0, 5), [Node(3, (0, 0)) for _ in range(1021)] + [alone]), names)
     if len(tree) != LONGEST:
         raise ValueError(f"a tree of {len(tree)} bytes")
-    return tree, b"17 2 3 511 0 0 0 0\ntotal 1\n"
+    return tree, b"17 2 3 511 0 0 0 0 1023 65535\ntotal 1\n"
 
 
 def lengths(listings):

@@ -166,7 +166,7 @@ def answers(choices, files):
 
 # What an answer says.
 
-RECORD = re.compile(rb"\d+( \d+){7}\n")
+RECORD = re.compile(rb"\d+( \d+){9}\n")
 REFUSAL = re.compile(rb"refused \d+ \d+\n|too long\n")
 
 
@@ -178,7 +178,7 @@ def accepted(lines):
 
 
 def records(lines):
-    """The records of a list, eight numbers each; Wrong where the lines are no list."""
+    """The records of a list, ten numbers each; Wrong where the lines are no list."""
     rows = lines[:-1]
     if lines[-1:] != [b"total %d\n" % len(rows)] or not all(map(RECORD.fullmatch, rows)):
         raise Wrong("the program desk gave no list of it")

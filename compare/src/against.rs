@@ -1,7 +1,7 @@
 //! The Rust, or document 01's rules, beside another program that speaks 01's listing or
 //! beside lists already written; the smallest file that differs is shown.
 use crate::batch;
-use crate::listing::{without_reasons, Source};
+use crate::listing::{Extent, Source};
 use crate::reduce::reduced;
 use crate::rules::Mode;
 use crate::show::show;
@@ -15,16 +15,19 @@ const STRICT: u32 = 1;
 #[derive(Clone, Copy)]
 pub struct Side {
     source: Source,
-    /// Whether reasons count; else of code 16 the first six numbers do.
-    reasons: bool,
+    extent: Extent,
 }
 
 impl Side {
-    /// The Rust has no reasons.
-    pub const RUST: Side = Side { source: Source::Rust, reasons: false };
+    pub const RUST: Side = Side { source: Source::Rust, extent: Extent::Rust };
 
-    pub fn rules(mode: Mode, reasons: bool) -> Side {
-        Side { source: Source::Rules(mode), reasons }
+    pub fn rules(mode: Mode) -> Side {
+        Side { source: Source::Rules(mode), extent: Extent::Whole }
+    }
+
+    /// The same beside lists of document 01 alone.
+    pub fn eight(self) -> Side {
+        Side { extent: Extent::Eight, ..self }
     }
 
     pub fn name(self) -> &'static str {
@@ -40,11 +43,7 @@ impl Side {
     }
 
     pub fn agrees(self, own: &str, other: &str) -> bool {
-        if self.reasons {
-            own == other
-        } else {
-            without_reasons(own) == without_reasons(other)
-        }
+        self.extent.of(own) == self.extent.of(other)
     }
 }
 

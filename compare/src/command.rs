@@ -17,15 +17,16 @@ const USAGE: &str = "usage:
                                       the same by document 01's rules, without the Rust
   compare judge [--batch]             `valid` or `refused N P`
   compare show                        a file's nodes by name
-  compare make [--seed S] [--from I] [--count N] [--any-order] [--damage] [--long]
+  compare make [--seed S] [--from I] [--count N] [--any-order] [--damage] [--long] [--shared]
                                       generated files, each after its length, on standard output
   compare sized SORT                  trees of one sort at growing numbers of nodes, each after its length;
                                       SORT: straight, loops, dicts, names
   compare coverage FILES..            what files show
-  compare lists [--rules | --strict] [--no-reasons] FILES LISTS
+  compare lists [--rules | --strict] [--eight] FILES LISTS
                                       the Rust beside lists written before; --rules: and document 01's rules,
-                                      strict keys: these alone. Of code 16 the Rust says the first six numbers,
-                                      the rules all eight; --no-reasons: six, for lists of 01 alone
+                                      strict keys: these alone. Of a record's ten numbers the Rust says neither
+                                      the reason of 16 nor the node of 1 to 6, the rules say all; --eight: of
+                                      lists of 01 alone its eight numbers a record, of 16 six
   compare noticed FILES LISTS         whether the Rust and the rules would notice a wrong number in right lists
   compare against [--each | --desk] [--rules | --strict] [--chunk N] [--as-found] FILES.. -- PROGRAM ..
                                       the same beside a program, which takes files as --batch has them;
@@ -88,13 +89,14 @@ impl Words {
 
     /// What lists are held against; the Rust has no strict keys.
     fn sides(&self) -> Result<Vec<Side>, String> {
-        let rules = Side::rules(self.mode(), !self.has("--no-reasons"));
-        match (self.has("--rules"), self.has("--strict")) {
-            (false, false) => Ok(vec![Side::RUST]),
-            (true, false) => Ok(vec![Side::RUST, rules]),
-            (false, true) => Ok(vec![rules]),
-            (true, true) => Err(USAGE.to_owned()),
-        }
+        let rules = Side::rules(self.mode());
+        let sides = match (self.has("--rules"), self.has("--strict")) {
+            (false, false) => vec![Side::RUST],
+            (true, false) => vec![Side::RUST, rules],
+            (false, true) => vec![rules],
+            (true, true) => return Err(USAGE.to_owned()),
+        };
+        Ok(if self.has("--eight") { sides.into_iter().map(Side::eight).collect() } else { sides })
     }
 
     /// Every file of the named heaps.
@@ -123,11 +125,12 @@ pub fn run(words: &[String]) -> Result<bool, String> {
             Ok(true)
         }
         "make" => {
-            make(Words::new(words, &["--seed", "--from", "--count"], &["--any-order", "--damage", "--long"])?)
+            let plain = ["--any-order", "--damage", "--long", "--shared"];
+            make(Words::new(words, &["--seed", "--from", "--count"], &plain)?)
         }
         "sized" => sized(Words::new(words, &[], &[])?),
         "coverage" => coverage(Words::new(words, &[], &[])?),
-        "lists" => lists(Words::new(words, &[], &["--rules", "--strict", "--no-reasons"])?),
+        "lists" => lists(Words::new(words, &[], &["--rules", "--strict", "--eight"])?),
         "noticed" => wrong_numbers(Words::new(words, &[], &[])?),
         "record" => record(Words::new(words, &["--seed", "--count", "--bytes"], &[])?),
         "against" => {
@@ -173,7 +176,13 @@ fn judged(words: Words) -> Result<bool, String> {
 fn plan(words: &Words) -> Result<Plan, String> {
     let seed = words.number("--seed", 1)?;
     let has = |flag| words.has(flag);
-    Ok(Plan { seed, any_order: has("--any-order"), damage: has("--damage"), long: has("--long") })
+    Ok(Plan {
+        seed,
+        any_order: has("--any-order"),
+        damage: has("--damage"),
+        long: has("--long"),
+        shared: has("--shared"),
+    })
 }
 
 fn make(words: Words) -> Result<bool, String> {
@@ -257,7 +266,7 @@ fn record(words: Words) -> Result<bool, String> {
     let limits = Limits {
         seed: words.number("--seed", 7)?,
         count: words.number("--count", 20000)?,
-        bytes: words.number("--bytes", 396000)? as usize,
+        bytes: words.number("--bytes", 440000)? as usize,
     };
     print(recorded::write(&limits, Path::new(folder))?.as_bytes());
     Ok(true)

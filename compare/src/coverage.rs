@@ -2,7 +2,7 @@
 use crate::judge::judge;
 use crate::kinds::{self, KINDS};
 use crate::listing::records;
-use crate::rules::{self, Mode};
+use crate::rules::{self, Met, Mode};
 use crate::tree::{Node, Tree};
 use std::collections::{BTreeMap, BTreeSet};
 use std::fmt::Write;
@@ -48,6 +48,9 @@ pub struct Coverage {
     edges: BTreeSet<Edge>,
     loops: BTreeMap<usize, usize>,
     limits: BTreeMap<&'static str, usize>,
+    shared: usize,
+    /// By code: trees with a record of it that has another node than the file's first of its span and name.
+    later: BTreeMap<u32, usize>,
 }
 
 impl Coverage {
@@ -80,6 +83,13 @@ impl Coverage {
         let [.., dubious] = rules::records(bytes, Mode::Ordinary);
         let reasons: BTreeSet<u32> = dubious.iter().filter(|r| r[0] == 16).map(|r| r[6]).collect();
         reasons.into_iter().for_each(|c| *self.reasons.entry(c).or_default() += 1);
+        self.nodes(&rules::met(bytes));
+    }
+
+    fn nodes(&mut self, met: &[Met]) {
+        self.shared += usize::from(met.iter().any(|m| m.kinds.len() > 1));
+        let later: BTreeSet<u32> = met.iter().filter(|m| m.at > 0).map(|m| m.code).collect();
+        later.into_iter().for_each(|c| *self.later.entry(c).or_default() += 1);
     }
 
     fn limits(&mut self, tree: &Tree) {
@@ -105,6 +115,9 @@ impl Coverage {
         line("files", format!("{} ({} valid, the Rust panicked on {})", self.files, self.valid, self.panics));
         line("trees by code", counted((1..=17).map(|c| (c, self.codes.get(&c)))));
         line("trees by reason of equal keys", counted((1..=2).map(|c| (c, self.reasons.get(&c)))));
+        line("trees with a names record that several nodes fit", self.shared.to_string());
+        let later = counted((1..=6).map(|c| (c, self.later.get(&c))));
+        line("trees where it has not the file's first of them, by code", later);
         line("trees by kind", counted(KINDS.iter().map(|k| (k.kind, self.kinds.get(&k.kind)))));
         line("trees by role", counted((0..=8).map(|c| (c, self.roles.get(&c)))));
         line("files by refusal", counted((1..=9).map(|c| (c, self.refusals.get(&c)))));

@@ -120,6 +120,9 @@ pub fn features(file: &[u8]) -> Features {
     }
     add(&mut out, 60, ("loops", loops(&tree.root).min(9)));
     out.extend(rules::cases(file).into_iter().map(|case| (case, CASE)));
+    for met in rules::met(file).into_iter().filter(|m| m.kinds.len() > 1) {
+        add(&mut out, 8, ("met", met.code, met.kinds[0], met.kinds[met.at], met.at > 0));
+    }
     Collector { out: &mut out, codes, last: BTreeMap::new() }.node(&tree.root, &[]);
     out
 }

@@ -5,6 +5,7 @@ mod flow;
 mod language;
 mod limits;
 mod names;
+mod nodes;
 mod others;
 mod refusals;
 pub mod sized;
@@ -28,6 +29,7 @@ pub fn files() -> Vec<Made> {
     out.extend(names::files());
     out.extend(flow::files());
     out.extend(others::files());
+    out.extend(nodes::files());
     out.extend(language::files());
     out.extend(refusals::files());
     out.extend(limits::files());

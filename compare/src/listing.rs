@@ -44,16 +44,40 @@ fn lines(records: &[Record]) -> String {
     out
 }
 
-/// Of a record of code 16 the six numbers before the reason; any other line as it is.
-fn without_reason(line: &str) -> String {
-    let words: Vec<&str> = line.split(' ').collect();
-    let kept = if words[0] == "16" && words.len() == 8 { 6 } else { words.len() };
-    words[..kept].join(" ")
+/// How much of a record counts where two lists are compared.
+#[derive(Clone, Copy)]
+pub enum Extent {
+    /// All ten numbers.
+    Whole,
+    /// What the Rust says: no reason of equal keys, and of codes 1 to 6 no node. Where nodes share span
+    /// and name its span comes from the one warned, which need not be the first met.
+    Rust,
+    /// Document 01 alone: the first eight, but no reason.
+    Eight,
 }
 
-/// A listing without the reasons of equal keys.
-pub fn without_reasons(list: &str) -> String {
-    list.split('\n').map(without_reason).collect::<Vec<_>>().join("\n")
+impl Extent {
+    /// Whether the number at this place of a record counts.
+    fn counts(self, code: u32, at: usize) -> bool {
+        let (reason, node) = (code == 16 && matches!(at, 6 | 7), at > 7);
+        match self {
+            Extent::Whole => true,
+            Extent::Rust => !reason && !(node && code <= 6),
+            Extent::Eight => !reason && !node,
+        }
+    }
+
+    /// Of a record what counts; any other line as it is.
+    fn line(self, line: &str) -> String {
+        let Some(code) = line.split(' ').next().and_then(|n| n.parse().ok()) else { return line.to_owned() };
+        let numbers = line.split(' ').enumerate().filter(|(at, _)| self.counts(code, *at));
+        numbers.map(|n| n.1).collect::<Vec<_>>().join(" ")
+    }
+
+    /// A listing, of each record what counts.
+    pub fn of(self, list: &str) -> String {
+        list.split('\n').map(|line| self.line(line)).collect::<Vec<_>>().join("\n")
+    }
 }
 
 /// Who says what the records of a valid file are.
@@ -61,7 +85,7 @@ pub fn without_reasons(list: &str) -> String {
 pub enum Source {
     /// The four files, unchanged; strict keys and reasons are not theirs.
     Rust,
-    /// Document 01 as rules.rs reads it, with the reasons of 02.
+    /// Document 01 as rules.rs reads it, with the reasons and the nodes of 02.
     Rules(Mode),
 }
 

@@ -21,6 +21,8 @@ pub struct Plan {
     pub damage: bool,
     /// With values up to the limits, which most trees have no use for.
     pub long: bool,
+    /// Nodes that hold names stand on one another's spans.
+    pub shared: bool,
 }
 
 impl Plan {
@@ -29,7 +31,8 @@ impl Plan {
         let order = if self.any_order { " --any-order" } else { "" };
         let damage = if self.damage { " --damage" } else { "" };
         let long = if self.long { " --long" } else { "" };
-        format!("--seed {} --from {index} --count 1{order}{damage}{long}", self.seed)
+        let shared = if self.shared { " --shared" } else { "" };
+        format!("--seed {} --from {index} --count 1{order}{damage}{long}{shared}", self.seed)
     }
 
     pub fn file(&self, index: u64) -> Vec<u8> {
@@ -51,6 +54,9 @@ impl Plan {
             order::shuffle(&mut tree.root, r);
         }
         spans::give(&mut tree.root, r);
+        if self.shared {
+            spans::share(&mut tree.root, r);
+        }
         if self.long {
             limits::lengthen(&mut tree);
         }

@@ -20,14 +20,19 @@ fn records(list: &str) -> Vec<Vec<u32>> {
     list.lines().filter_map(record).collect()
 }
 
+/// Whether the Rust must notice a change there: reasons are none of its own, nor are nodes of codes 1 to 6.
+fn seen_by_the_rust(code: u32, at: usize) -> bool {
+    !matches!((code, at), (16, 6 | 7) | (1..=6, 8 | 9))
+}
+
 /// The changes that a side took otherwise than it must, and a line on all of them.
-fn beside(side: Side, reasons: bool, files: &[Vec<u8>], lists: &[String]) -> (usize, String) {
+fn beside(side: Side, sees: fn(u32, usize) -> bool, files: &[Vec<u8>], lists: &[String]) -> (usize, String) {
     let (mut all, mut free, mut wrong) = (0, 0, 0);
     for (file, list) in files.iter().zip(lists) {
         let (own, records) = (side.list(file), records(list));
         for (row, record) in records.iter().enumerate().take(ENOUGH) {
             for at in 0..record.len() {
-                let matters = reasons || record[0] != 16 || at < 6;
+                let matters = sees(record[0], at);
                 all += 1;
                 free += usize::from(!matters);
                 wrong += usize::from(side.agrees(&own, &changed(&records, row, at)) == matters);
@@ -40,7 +45,10 @@ fn beside(side: Side, reasons: bool, files: &[Vec<u8>], lists: &[String]) -> (us
 
 /// Both sides, with ordinary keys; whether each noticed what it must and nothing else.
 pub fn noticed(files: &[Vec<u8>], lists: &[String]) -> (bool, String) {
-    let sides = [(Side::RUST, false), (Side::rules(Mode::Ordinary, true), true)];
-    let found = sides.map(|(side, reasons)| beside(side, reasons, files, lists));
+    let everything = |_, _| true;
+    let found = [
+        beside(Side::RUST, seen_by_the_rust, files, lists),
+        beside(Side::rules(Mode::Ordinary), everything, files, lists),
+    ];
     (found.iter().all(|f| f.0 == 0), found.iter().map(|f| f.1.as_str()).collect())
 }

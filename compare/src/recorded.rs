@@ -97,13 +97,15 @@ fn choose(limits: &Limits) -> Vec<Made> {
     let mut room = limits.bytes.saturating_sub(used);
     let mut seen = Seen::default();
     out.iter().for_each(|m| seen.add(&features(&m.file)));
-    let plan = Plan { seed: limits.seed, any_order: false, damage: false, long: false };
+    let plan = Plan { seed: limits.seed, any_order: false, damage: false, long: false, shared: false };
     // Refused files are short; a fifth of the room is plenty for them.
     let mut part = room / 5;
     room -= part;
     chosen(generated(Plan { damage: true, ..plan }, limits.count), &mut seen, &mut part, &mut out);
-    let mut trees = generated(plan, limits.count);
-    trees.extend(generated(Plan { any_order: true, ..plan }, limits.count));
+    let mut trees = Vec::new();
+    for (any_order, shared) in [(false, false), (true, false), (false, true), (true, true)] {
+        trees.extend(generated(Plan { any_order, shared, ..plan }, limits.count));
+    }
     chosen(trees, &mut seen, &mut room, &mut out);
     out
 }

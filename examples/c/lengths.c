@@ -5,7 +5,7 @@
 
 #include "yudronkha.h"
 
-enum { PATTERN = 0x5a, BEHIND = 4, ANSWER = 24, OUTPUT = YUDRONKHA_LOG_BYTES(2) };
+enum { PATTERN = 0x5a, BEHIND = 4, ANSWER = 3 * YUDRONKHA_RECORD_WORDS, OUTPUT = YUDRONKHA_LOG_BYTES(2) };
 
 /* One statement, a dict with the keys 10000000000 and 1e10: a record of code 13, with strict keys one of code 16 too. */
 static const uint8_t tree[] = {
@@ -36,6 +36,7 @@ struct call {
 
 #define TREE sizeof tree
 #define WORK YUDRONKHA_WORK_WORDS
+#define RECORD YUDRONKHA_RECORD_WORDS
 #define REPORT YUDRONKHA_REPORT_WORDS
 #define LOG_REPORT YUDRONKHA_SARIF_REPORT_WORDS
 #define NONE (-OUTPUT)
@@ -43,30 +44,30 @@ struct call {
 static const struct call calls[] = {
     {"all rooms ample", 0, 0, TREE, WORK + 1, ANSWER, 0, REPORT + 1, 0, 1},
     {"strict keys", 0, 1, TREE, WORK + 1, ANSWER, 0, REPORT + 1, 0, 2},
-    {"answer room exact", 0, 0, TREE, WORK, 8, 0, REPORT, 0, 1},
-    {"answer room exact, strict keys", 0, 1, TREE, WORK, 16, 0, REPORT, 0, 2},
-    {"no report", 0, 0, TREE, WORK, 8, 0, 0, 0, 1},
-    {"a report of one word", 0, 0, TREE, WORK, 8, 0, 1, 0, 1},
-    {"a report short of a word", 0, 0, TREE, WORK, 8, 0, REPORT - 1, 0, 1},
+    {"answer room exact", 0, 0, TREE, WORK, RECORD, 0, REPORT, 0, 1},
+    {"answer room exact, strict keys", 0, 1, TREE, WORK, 2 * RECORD, 0, REPORT, 0, 2},
+    {"no report", 0, 0, TREE, WORK, RECORD, 0, 0, 0, 1},
+    {"a report of one word", 0, 0, TREE, WORK, RECORD, 0, 1, 0, 1},
+    {"a report short of a word", 0, 0, TREE, WORK, RECORD, 0, REPORT - 1, 0, 1},
     {"no work room", 0, 0, TREE, 0, ANSWER, 0, REPORT, 10, 0},
     {"work room short of a word", 0, 0, TREE, WORK - 1, ANSWER, 0, REPORT, 10, 0},
     {"no answer room", 0, 0, TREE, WORK, 0, 0, REPORT, 11, 1},
-    {"answer room short of a word", 0, 0, TREE, WORK + 1, 7, 0, REPORT, 11, 1},
-    {"answer room short of a record, strict keys", 0, 1, TREE, WORK, 15, 0, REPORT, 11, 2},
+    {"answer room short of a word", 0, 0, TREE, WORK + 1, RECORD - 1, 0, REPORT, 11, 1},
+    {"answer room short of a record, strict keys", 0, 1, TREE, WORK, 2 * RECORD - 1, 0, REPORT, 11, 2},
     {"no room at all", 0, 0, TREE, 0, 0, 0, 0, 10, 0},
     {"an empty tree", 0, 0, 0, WORK, ANSWER, 0, REPORT, 1, 0},
     {"a tree short of a byte", 0, 0, TREE - 1, WORK, ANSWER, 0, REPORT, 4, 0},
     {"log, all rooms ample", 1, 0, TREE, WORK + 1, ANSWER, 9, LOG_REPORT + 1, 0, 1},
     {"log, strict keys", 1, 1, TREE, WORK + 1, ANSWER, 9, LOG_REPORT + 1, 0, 2},
-    {"log, rooms exact", 1, 0, TREE, WORK, 8, 0, LOG_REPORT, 0, 1},
-    {"log, rooms exact, strict keys", 1, 1, TREE, WORK, 16, 0, LOG_REPORT, 0, 2},
-    {"log, a report short of a word", 1, 0, TREE, WORK, 8, 0, LOG_REPORT - 1, 0, 1},
-    {"log, no report", 1, 0, TREE, WORK, 8, 0, 0, 0, 1},
+    {"log, rooms exact", 1, 0, TREE, WORK, RECORD, 0, LOG_REPORT, 0, 1},
+    {"log, rooms exact, strict keys", 1, 1, TREE, WORK, 2 * RECORD, 0, LOG_REPORT, 0, 2},
+    {"log, a report short of a word", 1, 0, TREE, WORK, RECORD, 0, LOG_REPORT - 1, 0, 1},
+    {"log, no report", 1, 0, TREE, WORK, RECORD, 0, 0, 0, 1},
     {"log, output room short of a byte", 1, 0, TREE, WORK + 1, ANSWER, -1, LOG_REPORT, 12, THE_LOGS},
     {"log, output room short of a byte, strict keys", 1, 1, TREE, WORK, ANSWER, -1, LOG_REPORT, 12, THE_LOGS},
     {"log, no output room", 1, 0, TREE, WORK, ANSWER, NONE, LOG_REPORT, 12, THE_LOGS},
-    {"log, answer room short of a word too", 1, 0, TREE, WORK, 7, -1, LOG_REPORT, 11, 1},
-    {"log, work room short of a word too", 1, 0, TREE, WORK - 1, 7, -1, LOG_REPORT, 10, 0},
+    {"log, answer room short of a word too", 1, 0, TREE, WORK, RECORD - 1, -1, LOG_REPORT, 11, 1},
+    {"log, work room short of a word too", 1, 0, TREE, WORK - 1, RECORD - 1, -1, LOG_REPORT, 10, 0},
     {"log, an empty tree", 1, 0, 0, WORK, ANSWER, 0, LOG_REPORT, 1, 0},
 };
 
@@ -101,21 +102,28 @@ static size_t report_word(const struct call *c, size_t k)
     return k == YUDRONKHA_NO_EFFECT || (k == YUDRONKHA_DUPLICATE_KEY && c->strict);
 }
 
-/* The record of strict keys comes second. */
-static int reason_given(void)
+/* The first record is at the dict. */
+static int dict_given(void)
 {
-    const uint32_t *record = answer + YUDRONKHA_RECORD_WORDS;
-    return record[YUDRONKHA_CODE] == YUDRONKHA_DUPLICATE_KEY && record[YUDRONKHA_REASON] == YUDRONKHA_SAME_NUMBER &&
-           record[YUDRONKHA_THIRD_END] == 0;
+    return answer[YUDRONKHA_CODE] == YUDRONKHA_NO_EFFECT && answer[YUDRONKHA_NODE] == 1 &&
+           answer[YUDRONKHA_SECOND_NODE] == YUDRONKHA_NO_NODE;
 }
 
-/* Every word of work room and report, every byte of the output room, the answer room past the records, the first record's code and
- * the second's reason, and the words behind them. */
+/* The record of strict keys comes second, at the first key. */
+static int keys_given(void)
+{
+    const uint32_t *record = answer + RECORD;
+    return record[YUDRONKHA_CODE] == YUDRONKHA_DUPLICATE_KEY && record[YUDRONKHA_REASON] == YUDRONKHA_SAME_NUMBER &&
+           record[YUDRONKHA_THIRD_END] == 0 && record[YUDRONKHA_NODE] == 2 && record[YUDRONKHA_SECOND_NODE] == 4;
+}
+
+/* Every word of work room and report, every byte of the output room, the answer room past the records, codes, nodes and reason of the
+ * records, and the words behind them. */
 static int as_said(const struct call *c)
 {
     int listed = c->number == YUDRONKHA_LISTED;
     int cleared = listed || c->number >= YUDRONKHA_REFUSED_ANSWER_ROOM;
-    size_t records = listed ? c->place * YUDRONKHA_RECORD_WORDS : 0;
+    size_t records = listed ? c->place * RECORD : 0;
     size_t bytes = listed && c->log ? log_bytes[c->strict] : 0;
     for (size_t k = 0; k < COUNT(work); k++)
         if (work[k] != (cleared && k < WORK ? 0 : PATTERN))
@@ -129,9 +137,9 @@ static int as_said(const struct call *c)
     for (size_t k = bytes; k < COUNT(output); k++)
         if (output[k] != PATTERN)
             return 0;
-    if (listed && c->strict && !reason_given())
+    if (listed && !(dict_given() && (!c->strict || keys_given())))
         return 0;
-    return memcmp(output, logs[c->strict], bytes) == 0 && (records == 0 || answer[YUDRONKHA_CODE] == YUDRONKHA_NO_EFFECT);
+    return memcmp(output, logs[c->strict], bytes) == 0;
 }
 
 static size_t called(const struct call *c)

@@ -1,4 +1,4 @@
-/* lint [--sarif] [FILE]: lints a tree file, or standard input, and prints what the desk's program prints of it: eight numbers for each
+/* lint [--sarif] [FILE]: lints a tree file, or standard input, and prints what the desk's program prints of it: ten numbers for each
  * record, then the total; with --sarif the list as one SARIF log; else the refusal's number and place, or `too long`.
  * Exit status: 0 no warning, 1 a warning, 2 refused or too long, a file that can't be read or written, or wrong use. */
 #include <stdio.h>

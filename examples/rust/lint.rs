@@ -1,4 +1,4 @@
-//! lint [FILE]: lints a tree file, or standard input, and prints what the desk's program prints of it: eight numbers for each
+//! lint [FILE]: lints a tree file, or standard input, and prints what the desk's program prints of it: ten numbers for each
 //! record, then the total; or the refusal's number and place, or `too long`.
 //! Exit status: 0 no warning, 1 a warning, 2 refused or too long, a file that can't be read or written, or wrong use.
 
@@ -10,10 +10,10 @@ use std::process::ExitCode;
 
 /// include/yudronkha.h; nothing but the version compares this declaration with it.
 mod yudronkha {
-    pub const VERSION: usize = 20000;
+    pub const VERSION: usize = 30000;
     pub const TREE_BYTES_MOST: usize = 149_515;
     pub const WORK_WORDS: usize = 32_768;
-    pub const RECORD_WORDS: usize = 8;
+    pub const RECORD_WORDS: usize = 10;
     pub const REPORT_WORDS: usize = 18;
     const REFUSED_ANSWER_ROOM: usize = 11;
     const WARNING: usize = 1;

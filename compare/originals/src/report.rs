@@ -10,17 +10,19 @@ use crate::tree::Tree;
 
 const NONE: u16 = 65535;
 
-/// Document 01's eight numbers.
-pub type Record = [u32; 8];
+/// Document 01's eight numbers, then the nodes that the first and the second span were read from
+/// (02, §4). The Rust knows no nodes, but a span takes its node's number along.
+pub type Record = [u32; 10];
 
 fn record<T: LintWarning>(lint: &LintT<T>, code: u32, value: u16, more: &[Span]) -> Record {
     let disabled = matches!(code, 1 | 2 | 3 | 5 | 10 | 11);
     let wanted = if disabled { EvalSeverity::Disabled } else { EvalSeverity::Warning };
     assert!(lint.problem.severity() == wanted, "severity of code {code}");
     assert!(!lint.problem.to_string().is_empty());
-    let Span { begin, end, .. } = lint.location.span;
+    let Span { begin, end, at } = lint.location.span;
     let [second, third] = [0, 1].map(|i| more.get(i).map_or((0, 0), |s| (s.begin, s.end)));
-    [code, begin, end, value.into(), second.0, second.1, third.0, third.1]
+    let second_at = more.first().map_or(NONE.into(), |s| s.at);
+    [code, begin, end, value.into(), second.0, second.1, third.0, third.1, at, second_at]
 }
 
 /// The node that a printed expression stands for.

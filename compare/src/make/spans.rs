@@ -32,6 +32,21 @@ pub fn give(root: &mut Node, r: &mut Random) {
     }
 }
 
+/// Names that stand together: all those of a part of the tree on the span of that part.
+pub fn share(root: &mut Node, r: &mut Random) {
+    let parts = *r.pick(&[2, 10, 30, 60]);
+    together(root, root.span, parts, r);
+}
+
+/// So many of a hundred nodes are a part of their own.
+fn together(node: &mut Node, around: (u32, u32), parts: usize, r: &mut Random) {
+    let span = if r.percent(parts) { node.span } else { around };
+    if matches!(node.value, Some((0, _))) {
+        node.span = span;
+    }
+    node.children.iter_mut().for_each(|c| together(c, span, parts, r));
+}
+
 /// Each node around its children, no two with one span.
 pub fn text(node: &mut Node, at: &mut u32) {
     let begin = *at;

@@ -1,5 +1,5 @@
 //! Flow (001): five walks.
-use super::view::{record, View, NO_SPAN};
+use super::view::{View, NO_SPAN};
 use crate::file::NONE;
 use originals::Record;
 
@@ -14,7 +14,7 @@ pub fn list(view: &View) -> Vec<Record> {
 }
 
 fn plain(code: u32, view: &View, i: usize) -> Record {
-    record(code, view.span(i), NONE, NO_SPAN, NO_SPAN)
+    view.record(code, i, NONE, None, NO_SPAN)
 }
 
 /// Returns outside nested defs.
@@ -44,10 +44,10 @@ fn returns(view: &View, i: usize, out: &mut Vec<Record>) {
         if let Some(reason) = typed.or_else(first) {
             let name = view.value(view.one(i, 6));
             if !ends_surely(view, body) {
-                out.push(record(8, view.span(i), name, view.span(reason), NO_SPAN));
+                out.push(view.record(8, i, name, Some(reason), NO_SPAN));
             }
             let bare = all.iter().filter(|r| view.only(**r, 4).is_none());
-            out.extend(bare.map(|r| record(7, view.span(*r), name, view.span(i), view.span(reason))));
+            out.extend(bare.map(|r| view.record(7, *r, name, Some(i), view.span(reason))));
         }
     }
     view.statements(i).into_iter().for_each(|x| returns(view, x, out));

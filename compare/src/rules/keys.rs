@@ -1,5 +1,5 @@
 //! Dubious (003): equal keys, and identifiers as statements.
-use super::view::{record, Span, View, NO_SPAN};
+use super::view::{Span, View, NO_SPAN};
 use originals::Record;
 use std::collections::HashMap;
 
@@ -71,7 +71,7 @@ fn keys(view: &View, mode: Mode, i: usize, out: &mut Vec<Record>) {
             let Some(key) = mode.key(view, later) else { continue };
             if let Some(before) = previous.insert(key, later) {
                 let third = reason(view, before, later);
-                out.push(record(16, view.span(before), view.value(later), view.span(later), third));
+                out.push(view.record(16, before, view.value(later), Some(later), third));
             }
         }
     }
@@ -82,7 +82,7 @@ fn identifiers(view: &View, i: usize, out: &mut Vec<Record>) {
     if view.kind(i) == 5 {
         let x = view.one(i, 4);
         if view.kind(x) == 20 {
-            out.push(record(17, view.span(x), view.value(x), NO_SPAN, NO_SPAN));
+            out.push(view.record(17, x, view.value(x), None, NO_SPAN));
         }
     }
     view.statements(i).into_iter().for_each(|x| identifiers(view, x, out));

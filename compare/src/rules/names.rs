@@ -1,7 +1,7 @@
 //! Names (000).
-use super::view::{record, Span, View, NO_SPAN};
+use super::view::{Span, View, NO_SPAN};
 use originals::Record;
-use std::collections::{BTreeMap, BTreeSet, HashSet};
+use std::collections::{BTreeMap, BTreeSet, HashMap, HashSet};
 use std::hash::{DefaultHasher, Hash, Hasher};
 
 /// A span and a name.
@@ -42,6 +42,8 @@ struct Walk<'a> {
     view: &'a View,
     scopes: Vec<Scope>,
     warned: HashSet<Pair>,
+    /// Of each pair the node that the walk uses or sets first: the one that its record has (02, §4).
+    first: HashMap<Pair, usize>,
     out: Vec<Record>,
     /// Enclosing for statements, through defs too.
     loops: usize,
@@ -50,8 +52,8 @@ struct Walk<'a> {
 }
 
 fn walked(view: &View) -> Walk<'_> {
-    let (out, warned, met) = (vec![], HashSet::new(), BTreeSet::new());
-    let mut walk = Walk { view, scopes: vec![], warned, out, loops: 0, met };
+    let (warned, first, met) = (HashSet::new(), HashMap::new(), BTreeSet::new());
+    let mut walk = Walk { view, scopes: vec![], warned, first, out: vec![], loops: 0, met };
     walk.enter();
     walk.statement(0);
     walk.leave();
@@ -95,12 +97,15 @@ impl Walk<'_> {
         let first = self.warned.insert(pair);
         self.meet(("warn", code, first));
         if first {
-            self.out.push(record(code, pair.0, pair.1, NO_SPAN, NO_SPAN));
+            self.out.push(self.view.record(code, self.first[&pair], pair.1, None, NO_SPAN));
         }
     }
 
-    fn pair(&self, i: usize) -> Pair {
-        (self.view.span(i), self.view.value(i))
+    /// The pair of a node that is used or set now.
+    fn pair(&mut self, i: usize) -> Pair {
+        let pair = (self.view.span(i), self.view.value(i));
+        self.first.entry(pair).or_insert(i);
+        pair
     }
 
     fn enter(&mut self) {

@@ -1,5 +1,5 @@
 //! Incompatible (002): type checks, and what the top level assigns twice.
-use super::view::{record, Span, View, NO_SPAN};
+use super::view::{View, NO_SPAN};
 use originals::Record;
 use std::collections::{HashMap, HashSet};
 
@@ -19,7 +19,7 @@ fn type_check(view: &View, i: usize, out: &mut Vec<Record>) {
             && view.is_identifier(view.one(left, 7), b"type")
             && view.with_role(left, 0).len() == 1;
         if called && TYPES.iter().any(|t| view.is_identifier(right, t)) {
-            out.push(record(14, view.span(i), view.value(right), NO_SPAN, NO_SPAN));
+            out.push(view.record(14, i, view.value(right), None, NO_SPAN));
         }
     }
     view.expressions(i).into_iter().for_each(|x| type_check(view, x, out));
@@ -27,8 +27,8 @@ fn type_check(view: &View, i: usize, out: &mut Vec<Record>) {
 
 struct Top<'a> {
     view: &'a View,
-    /// Where a name was first defined, and whether by a load.
-    first: HashMap<u16, (Span, bool)>,
+    /// The node by which a name was first defined, and whether that is a load's.
+    first: HashMap<u16, (usize, bool)>,
     /// Names whose x = x has been let pass.
     freed: HashSet<u16>,
     out: &'a mut Vec<Record>,
@@ -36,11 +36,11 @@ struct Top<'a> {
 
 impl Top<'_> {
     fn define(&mut self, i: usize, load: bool) {
-        let (span, name) = (self.view.span(i), self.view.value(i));
+        let name = self.view.value(i);
         match self.first.get(&name) {
-            Some((first, _)) => self.out.push(record(15, span, name, *first, NO_SPAN)),
+            Some((first, _)) => self.out.push(self.view.record(15, i, name, Some(*first), NO_SPAN)),
             None => {
-                self.first.insert(name, (span, load));
+                self.first.insert(name, (i, load));
             }
         }
     }

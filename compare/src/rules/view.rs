@@ -12,10 +12,6 @@ pub type Span = (u32, u32);
 
 pub const NO_SPAN: Span = (0, 0);
 
-pub fn record(code: u32, at: Span, value: u16, second: Span, third: Span) -> Record {
-    [code, at.0, at.1, value.into(), second.0, second.1, third.0, third.1]
-}
-
 pub fn is_statement(kind: u8) -> bool {
     kind <= 13
 }
@@ -29,6 +25,13 @@ impl View {
         let file = File::read(bytes).expect("a valid file");
         let globals = (file.counts[2] != NONE).then(|| file.globals.clone());
         View { file, globals }
+    }
+
+    /// A record at a node, its second span another node's: 01's eight numbers, then both nodes (02, §4).
+    pub fn record(&self, code: u32, at: usize, value: u16, second: Option<usize>, third: Span) -> Record {
+        let ((begin, end), (begin2, end2)) = (self.span(at), second.map_or(NO_SPAN, |i| self.span(i)));
+        let second = second.map_or(NONE.into(), |i| i as u32);
+        [code, begin, end, value.into(), begin2, end2, third.0, third.1, at as u32, second]
     }
 
     pub fn kind(&self, i: usize) -> u8 {
@@ -97,6 +100,13 @@ impl View {
 
     pub fn is_identifier(&self, i: usize, name: &[u8]) -> bool {
         self.kind(i) == 20 && self.table(self.value(i)).1 == name
+    }
+
+    /// The nodes that share span and name with one that has a name, itself among them.
+    pub fn alike(&self, i: usize) -> Vec<usize> {
+        let named = |x: &usize| matches!(self.kind(*x), 20 | 40 | 43 | 47);
+        let same = |x: &usize| (self.span(*x), self.value(*x)) == (self.span(i), self.value(i));
+        (0..self.file.nodes.len()).filter(named).filter(same).collect()
     }
 
     /// A statement that is a call of the identifier fail.

@@ -7,12 +7,12 @@ use mathlib.Core.Bool.{Bool, true, false}
 use lib.Dec.{eqb}
 use borrow.Author.Tests.{eq-eqb}
 use Rattle.tree.specs.Bytes.{kindAt, roleAt, sizeAt}
-use Rattle.tree.specs.Forest.{Spot, Head, Forest, none, node, spotAt, headAt, forestOf}
+use Rattle.tree.specs.Forest.{Head, Forest, none, node, spotAt, headAt, forestOf}
 use Rattle.tree.specs.code.Part.{Part}
 use Rattle.tree.specs.code.Find.{childOf, from-role}
 use Rattle.tree.proofs.Laws.{forest-none, forest-node}
 use Rattle.tree.proofs.Find.{child-le, child-role, child-part, child-forest}
-use Rattle.rules.specs.Visit.{spot-at, kind-at, under}
+use Rattle.rules.specs.Visit.{no-head, head-at, spot-at, kind-at, under}
 
 -- v asks something of the first node of role r: A of its head and children, z where there is none
 module _ {B : Type 0} (r : ℕ) (v : Forest → B) (A : Head → Forest → B) (z : B) (nil : v none ≡ z)
@@ -40,17 +40,21 @@ module _ {B : Type 0} (r : ℕ) (v : Forest → B) (A : Head → Forest → B) (
   absent {t} {i} {e} p h = same (forestOf t i e) ∙ ap v (child-forest p r ∙ forest-none t (childOf t r i e) e h) ∙ nil
 
 module _ (r : ℕ) {t : List ℕ} {i e : ℕ} (p : Part t i e) (h : i ≤ e) (lt : childOf t r i e < e) where
+  pub head-there : head-at r (forestOf t i e) ≡ headAt t (childOf t r i e)
+  head-there = there r (head-at r) (λ g k. g) no-head refl (λ g k s b. rw (b, head-at)) (λ g k s b. rw (b, head-at)) p h lt
+
   pub kind-there : kind-at r (forestOf t i e) ≡ kindAt t (childOf t r i e)
   unfolding headAt
-  kind-there = there r (kind-at r) (λ g k. g .kind) 0 refl (λ g k s b. rw (b, kind-at)) (λ g k s b. rw (b, kind-at)) p h lt
+  kind-there = ap (λ (g : Head). g .kind) head-there
 
   pub place-there : spot-at r (forestOf t i e) ≡ spotAt t (childOf t r i e)
   unfolding headAt
-  place-there = there r (spot-at r) (λ g k. g .spot) (record { begin = 0; end = 0; value = 0 }) refl (λ g k s b. rw (b, spot-at)) (λ g k s b. rw (b, spot-at)) p h lt
+  place-there = ap (λ (g : Head). g .spot) head-there
 
   pub under-there : under r (forestOf t i e) ≡ forestOf t (childOf t r i e + 1) (childOf t r i e + sizeAt t (childOf t r i e))
   under-there = there r (under r) (λ g k. k) none refl (λ g k s b. rw (b, under)) (λ g k s b. rw (b, under)) p h lt
 
 module _ (r : ℕ) {t : List ℕ} {i e : ℕ} (p : Part t i e) (h : e ≤ childOf t r i e) where
   pub kind-absent : kind-at r (forestOf t i e) ≡ 0
-  kind-absent = absent r (kind-at r) (λ g k. g .kind) 0 refl (λ g k s b. rw (b, kind-at)) (λ g k s b. rw (b, kind-at)) p h
+  kind-absent =
+      absent r (λ f. head-at r f .kind) (λ g k. g .kind) 0 refl (λ g k s b. rw (b, head-at)) (λ g k s b. rw (b, head-at)) p h

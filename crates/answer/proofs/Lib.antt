@@ -7,3 +7,4 @@ pub mod Flat
 pub mod Each
 pub mod ByRole
 pub mod Whole
+pub mod Lent

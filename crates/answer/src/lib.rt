@@ -2,11 +2,11 @@
 // Every function here is total: a record for which there is no room is only counted, and a count stays at the largest usize.
 ghost use mathlib.Core.Path.{_≡_};
 ghost use Prim.Native.Nat.{_<_};
-ghost use Rattle.tree.specs.Forest.{spotAt};
+ghost use Rattle.tree.specs.Forest.{numberAt, headAt};
 ghost use Rattle.rules.specs.Record.{plainly};
 ghost use Rattle.rules.specs.Joined.{one-more, raise, no-tally};
 ghost use Rattle.answer.specs.Page.{stored, write, page};
-ghost use Rattle.answer.specs.Note.{spanOf, valueOf, recOf, recFrom};
+ghost use Rattle.answer.specs.Note.{spanOf, spanFrom, valueOf, nodeOf, recOf, recFrom};
 ghost use Rattle.answer.specs.Refuse.{refusalOf};
 use rules::Answer;
 use rules::CODES;
@@ -41,6 +41,12 @@ pub struct Sheet {
     pub tally: [usize; CODES],
 }
 
+struct Ends {
+    begin: u32,
+    end: u32,
+}
+
+// A record's words: its code, its first span and value, its second and third span, its node and that of its second span.
 pub struct Words {
     pub code: u32,
     pub begin: u32,
@@ -50,6 +56,8 @@ pub struct Words {
     pub end2: u32,
     pub begin3: u32,
     pub end3: u32,
+    pub number: u32,
+    pub number2: u32,
 }
 
 fn up(x: usize) -> usize
@@ -90,23 +98,20 @@ fn word(x: usize) -> u32
     x as u32
 }
 
-fn begin_of(t: &[u8], p: Place) -> u32
-    ensures { λ r. ⌜ r ≡ spanOf (now (t .entry)) p .begin ⌝ }
+// Where a place begins and ends; of why two keys are equal, its number and 0.
+fn ends_of(t: &[u8], p: Place) -> Ends
+    ensures { λ r. ⌜ spanFrom r ≡ spanOf (now (t .entry)) p ⌝ }
 {
     match p {
-        Place::Nowhere => 0,
-        Place::Node(i) => word(begin_at(t, i)),
-        Place::Reason(l) => l.reason(),
-    }
-}
-
-fn end_of(t: &[u8], p: Place) -> u32
-    ensures { λ r. ⌜ r ≡ spanOf (now (t .entry)) p .end ⌝ }
-{
-    match p {
-        Place::Nowhere => 0,
-        Place::Node(i) => word(end_at(t, i)),
-        Place::Reason(_) => 0,
+        Place::Nowhere => Ends { begin: 0, end: 0 },
+        Place::Node(i) => Ends {
+            begin: word(begin_at(t, i)),
+            end: word(end_at(t, i)),
+        },
+        Place::Reason(l) => Ends {
+            begin: l.reason(),
+            end: 0,
+        },
     }
 }
 
@@ -120,21 +125,46 @@ fn value_of(t: &[u8], p: Place) -> u32
     }
 }
 
+fn number_at(i: usize) -> u32
+    ensures { λ r. ⌜ r ≡ numberAt i ⌝ }
+{
+    if i < 65535 {
+        return word(i);
+    }
+    65535
+}
+
+// The number of the node that a span comes from.
+fn number_of(p: Place) -> u32
+    ensures { λ r. ⌜ r ≡ nodeOf p ⌝ }
+{
+    match p {
+        Place::Nowhere => 65535,
+        Place::Node(i) => number_at(i),
+        Place::Reason(_) => 65535,
+    }
+}
+
 fn words_of(t: &[u8], n: Note) -> Words
     ensures { λ r. ⌜ recFrom r ≡ recOf (now (t .entry)) n ⌝ }
 {
     let value = n.value;
     let second = n.second;
     let third = n.third;
+    let first = ends_of(t, Place::Node(n.at));
+    let two = ends_of(t, second);
+    let three = ends_of(t, third);
     Words {
         code: n.code,
-        begin: begin_of(t, Place::Node(n.at)),
-        end: end_of(t, Place::Node(n.at)),
+        begin: first.begin,
+        end: first.end,
         value: value_of(t, value),
-        begin2: begin_of(t, second),
-        end2: end_of(t, second),
-        begin3: begin_of(t, third),
-        end3: end_of(t, third),
+        begin2: two.begin,
+        end2: two.end,
+        begin3: three.begin,
+        end3: three.end,
+        number: number_at(n.at),
+        number2: number_of(second),
     }
 }
 
@@ -152,6 +182,8 @@ fn emit(out: &mut [u32], n: usize, r: Words)
         out[a + 5] = r.end2;
         out[a + 6] = r.begin3;
         out[a + 7] = r.end3;
+        out[a + 8] = r.number;
+        out[a + 9] = r.number2;
     }
 }
 
@@ -171,7 +203,7 @@ pub fn put(t: &[u8], out: &mut [u32], s: Sheet, n: Note) -> Sheet
 
 // A record of a node's own span and of no value.
 pub fn put_plainly(t: &[u8], out: &mut [u32], s: Sheet, code: u32, i: usize) -> Sheet
-    ensures { λ r. ⌜ page (now (out .exit)) r ≡ write (page (now (out .entry)) s) (plainly code (spotAt (now (t .entry)) i)) ⌝ }
+    ensures { λ r. ⌜ page (now (out .exit)) r ≡ write (page (now (out .entry)) s) (plainly code (headAt (now (t .entry)) i)) ⌝ }
 {
     put(
         t,

@@ -9,7 +9,7 @@ use lib.Dec.{eqb}
 use lib.ListN.{length, getD}
 use borrow.Author.Tests.{ne-eqb}
 use Rattle.tree.specs.Bytes.{nodeCount, valueCount, kindAt, roleAt, sizeAt, valueAt}
-use Rattle.tree.specs.Forest.{Spot, Head, Forest, none, node, spotAt, headAt, forestOf, treeOf}
+use Rattle.tree.specs.Forest.{Head, Forest, none, node, spotAt, headAt, forestOf, treeOf}
 use Rattle.tree.specs.code.Part.{Part}
 use Rattle.tree.specs.Judge.{judged}
 use Rattle.tree.specs.code.Sound.{Sound}
@@ -32,9 +32,9 @@ use Rattle.answer.proofs.Whole.{few-nodes}
 use Rattle.dubious.specs.Scan.{is-key}
 
 -- every key has a value number below nv
-pub data Low (nv : ℕ) : List Spot → Type 0 where
+pub data Low (nv : ℕ) : List Head → Type 0 where
   low-none : Low nv []
-  low-more : {s : Spot} {ss : List Spot} → s .value < nv → Low nv ss → Low nv (s ∷ ss)
+  low-more : {s : Head} {ss : List Head} → s .spot .value < nv → Low nv ss → Low nv (s ∷ ss)
 
 pub data Fine (nv : ℕ) : Forest → Type 0 where
   fine-none : Fine nv none
@@ -44,18 +44,18 @@ keys-low : (nv : ℕ) (f : Forest) → Fine nv f → Low nv (keys f)
 keys-low nv none w = low-none
 keys-low nv (node h k s) (fine-node a u v) = go (is-key h) refl (keys-low nv s v)
   where
-    go : (b : Bool) → is-key h ≡ b → Low nv (keys s) → Low nv (listed b (h .spot ∷ []) (keys s))
+    go : (b : Bool) → is-key h ≡ b → Low nv (keys s) → Low nv (listed b (h ∷ []) (keys s))
     go true e l = low-more (a e) l
     go false e l = l
 
 -- two key tests that agree below nv
 module _ (nv : ℕ) (p q : ℕ → ℕ → Likeness) (agree : (a b : ℕ) → a < nv → b < nv → p a b ≡ q a b) where
-  against-same : (s : Spot) (os : List Spot) → s .value < nv → Low nv os → against p s os ≡ against q s os
+  against-same : (s : Head) (os : List Head) → s .spot .value < nv → Low nv os → against p s os ≡ against q s os
   against-same s [] h w = refl
   against-same s (o ∷ os) h (low-more a w) =
-      ap₂ (λ (l : Likeness) (on : List Rec). clash l o s on) (agree (o .value) (s .value) a h) (against-same s os h w)
+      ap₂ (λ (l : Likeness) (on : List Rec). clash l o s on) (agree (o .spot .value) (s .spot .value) a h) (against-same s os h w)
 
-  doubles-same : (os ss : List Spot) → Low nv os → Low nv ss → doubles p os ss ≡ doubles q os ss
+  doubles-same : (os ss : List Head) → Low nv os → Low nv ss → doubles p os ss ≡ doubles q os ss
   doubles-same os [] w v = refl
   doubles-same os (s ∷ ss) w (low-more a v) =
       ap₂ (λ (x y : List Rec). x ++ y) (against-same s os a w) (doubles-same (s ∷ os) ss (low-more a w) v)

@@ -7,7 +7,7 @@ use mathlib.Core.Bool.{Bool, true, false, cond, _&&_}
 use lib.Dec.{eqb, ltb}
 use borrow.Author.Tests.{ne-eqb, lt-ltb, le-ltb}
 use Rattle.tree.specs.Bytes.{kindAt, roleAt, sizeAt, valueAt, pick}
-use Rattle.tree.specs.Forest.{Spot, Head, Forest, node, spotAt, headAt, forestOf}
+use Rattle.tree.specs.Forest.{Head, Forest, node, spotAt, headAt, forestOf}
 use Rattle.tree.specs.code.Part.{Part, Subtree}
 use Rattle.tree.specs.declared.Likeness.{Likeness}
 use Rattle.tree.specs.declared.Likeness.the-variants.{Different, SameForm, SameNumber}
@@ -15,14 +15,14 @@ use Rattle.tree.specs.Keys.{alike}
 use Rattle.tree.specs.code.Numbers.{like-by}
 use Rattle.tree.specs.code.Find.{childOf}
 use Rattle.rules.specs.Record.{Rec, named-at, listed}
-use Rattle.rules.specs.Visit.{spot-at, kind-at}
+use Rattle.rules.specs.Visit.{head-at, kind-at}
 use Rattle.rules.specs.Dubious.{keys, double, clash, against, doubles, dict-at, idle-at}
 use Rattle.tree.proofs.Laws.{sized, first, kids}
 use Rattle.answer.specs.Page.{Page, write, writes}
 use Rattle.answer.proofs.Laws.{writes-none, writes-one}
 use Rattle.answer.proofs.Flat.{past, over, split}
 use Rattle.answer.proofs.Bits.{eqb-swap, and-false}
-use Rattle.answer.proofs.ByRole.{kind-there, kind-absent, place-there}
+use Rattle.answer.proofs.ByRole.{kind-there, kind-absent, head-there}
 use Rattle.dubious.specs.Scan.{is-key, before, seen, doubled, clashes}
 
 -- ---- is-key
@@ -41,13 +41,13 @@ key-literal t j h k = rw (h, ne-eqb 20 (kindAt t j) (λ z. k (sym z))) (eqb-swap
 
 -- ---- keys of siblings
 
-abbrev key-of : Head → List Spot
-key-of h = listed (is-key h) (h .spot ∷ []) []
+abbrev key-of : Head → List Head
+key-of h = listed (is-key h) (h ∷ []) []
 
 keys-cons : (h : Head) (k s : Forest) → keys (node h k s) ≡ key-of h ++ keys s
 keys-cons h k s = go (is-key h)
   where
-    go : (b : Bool) → listed b (h .spot ∷ []) (keys s) ≡ listed b (h .spot ∷ []) [] ++ keys s
+    go : (b : Bool) → listed b (h ∷ []) (keys s) ≡ listed b (h ∷ []) [] ++ keys s
     go true = refl
     go false = refl
 
@@ -62,34 +62,34 @@ keys-onward : {t : List ℕ} {i j e : ℕ} → Part t i j → Part t j e → i �
     → keys (forestOf t i (j + sizeAt t j)) ≡ keys (forestOf t i j) ++ key-of (headAt t j)
 keys-onward {t} {i} {j} {e} p q a lt =
     split keys (λ h k. key-of h) refl keys-cons p (first q lt) a (omega arith)
-    ∙ ap (λ (l : List Spot). keys (forestOf t i j) ++ l)
+    ∙ ap (λ (l : List Head). keys (forestOf t i j) ++ l)
     (keys-over (first q lt) (omega (arith, sized q lt)) ∙ rw (keys-past t (j + sizeAt t j) (j + sizeAt t j) (omega arith), append-nil))
 
-before-append : (xs ys zs : List Spot) → before (xs ++ ys) zs ≡ before ys (before xs zs)
+before-append : (xs ys zs : List Head) → before (xs ++ ys) zs ≡ before ys (before xs zs)
 unfolding before
 before-append [] ys zs = refl
 before-append (x ∷ xs) ys zs = before-append xs ys (x ∷ zs)
 
 -- ---- the previous equal key
 
-clash-alike : (l : Likeness) (old s : Spot) (on : List Rec) → alike l ≡ true → clash l old s on ≡ double l old s ∷ []
+clash-alike : (l : Likeness) (old s : Head) (on : List Rec) → alike l ≡ true → clash l old s on ≡ double l old s ∷ []
 clash-alike Different old s on e = let z : _≡_ {A = ℕ} 0 1 = ap (λ (b : Bool). cond b 1 0) e in absurd (omega arith)
 clash-alike SameForm old s on e = refl
 clash-alike SameNumber old s on e = refl
 
-clash-other : (l : Likeness) (old s : Spot) (on : List Rec) → alike l ≡ false → clash l old s on ≡ on
+clash-other : (l : Likeness) (old s : Head) (on : List Rec) → alike l ≡ false → clash l old s on ≡ on
 clash-other Different old s on e = refl
 clash-other SameForm old s on e = let z : _≡_ {A = ℕ} 1 0 = ap (λ (b : Bool). cond b 1 0) e in absurd (omega arith)
 clash-other SameNumber old s on e = let z : _≡_ {A = ℕ} 1 0 = ap (λ (b : Bool). cond b 1 0) e in absurd (omega arith)
 
 module _ (ns t : List ℕ) (j : ℕ) where
   -- the key at node j against others
-  abbrev pub of-j : List Spot → List Rec
-  of-j = against (like-by ns) (spotAt t j)
+  abbrev pub of-j : List Head → List Rec
+  of-j = against (like-by ns) (headAt t j)
 
   -- the key at node r, where r is below j
-  abbrev pub at-most : ℕ → List Spot
-  at-most r = listed (ltb r j) (spotAt t r ∷ []) []
+  abbrev pub at-most : ℕ → List Head
+  at-most r = listed (ltb r j) (headAt t r ∷ []) []
 
   abbrev pub equal : ℕ → Bool
   equal m = alike (like-by ns (valueAt t m) (valueAt t j))
@@ -98,19 +98,19 @@ module _ (ns t : List ℕ) (j : ℕ) where
     pub hit : of-j (at-most old) ≡ doubled ns t old j
     pub left : of-j (before (keys (forestOf t m j)) (at-most old)) ≡ clashes ns t i j
 
-  before-same : (ps xs ys : List Spot) → of-j xs ≡ of-j ys → of-j (before ps xs) ≡ of-j (before ps ys)
+  before-same : (ps xs ys : List Head) → of-j xs ≡ of-j ys → of-j (before ps xs) ≡ of-j (before ps ys)
   unfolding before
   before-same [] xs ys e = e
   before-same (p ∷ ps) xs ys e =
-      before-same ps (p ∷ xs) (p ∷ ys) (ap (clash (like-by ns (p .value) (spotAt t j .value)) p (spotAt t j)) e)
+      before-same ps (p ∷ xs) (p ∷ ys) (ap (clash (like-by ns (p .spot .value) (headAt t j .spot .value)) p (headAt t j)) e)
 
-  equal-here : (m : ℕ) → equal m ≡ true → (xs : List Spot) → of-j (spotAt t m ∷ xs) ≡ double (like-by ns (valueAt t m) (valueAt t j)) (spotAt t m) (spotAt t j) ∷ []
-  unfolding spotAt
-  equal-here m e xs = clash-alike (like-by ns (valueAt t m) (valueAt t j)) (spotAt t m) (spotAt t j) (of-j xs) e
+  equal-here : (m : ℕ) → equal m ≡ true → (xs : List Head) → of-j (headAt t m ∷ xs) ≡ double (like-by ns (valueAt t m) (valueAt t j)) (headAt t m) (headAt t j) ∷ []
+  unfolding headAt spotAt
+  equal-here m e xs = clash-alike (like-by ns (valueAt t m) (valueAt t j)) (headAt t m) (headAt t j) (of-j xs) e
 
-  other-here : (m : ℕ) → equal m ≡ false → (xs : List Spot) → of-j (spotAt t m ∷ xs) ≡ of-j xs
-  unfolding spotAt
-  other-here m e xs = clash-other (like-by ns (valueAt t m) (valueAt t j)) (spotAt t m) (spotAt t j) (of-j xs) e
+  other-here : (m : ℕ) → equal m ≡ false → (xs : List Head) → of-j (headAt t m ∷ xs) ≡ of-j xs
+  unfolding headAt spotAt
+  other-here m e xs = clash-other (like-by ns (valueAt t m) (valueAt t j)) (headAt t m) (headAt t j) (of-j xs) e
 
   pub scan-start : (i : ℕ) → Scanned i j i
   scan-start i = let z : ltb j j ≡ false = le-ltb j j (omega arith) in record { hit = rw z; left = rw z }
@@ -124,7 +124,7 @@ module _ (ns t : List ℕ) (j : ℕ) where
   unfolding before headAt
   scan-step i old m r p lt s e = rw e (go (is-key (headAt t m)) (equal m) refl refl)
     where
-      rest-keys : List Spot
+      rest-keys : List Head
       rest-keys = keys (forestOf t (m + sizeAt t m) j)
 
       opened : of-j (before (key-of (headAt t m) ++ rest-keys) (at-most old)) ≡ clashes ns t i j
@@ -137,11 +137,11 @@ module _ (ns t : List ℕ) (j : ℕ) where
           record {
             hit = rw z (equal-here m v []);
             left =
-                rw z (before-same rest-keys (spotAt t m ∷ []) (spotAt t m ∷ at-most old) (equal-here m v [] ∙ sym (equal-here m v (at-most old))))
+                rw z (before-same rest-keys (headAt t m ∷ []) (headAt t m ∷ at-most old) (equal-here m v [] ∙ sym (equal-here m v (at-most old))))
                 ∙ rw u at opened;
           }
       go true false u v =
-          record { hit = s .hit; left = before-same rest-keys (at-most old) (spotAt t m ∷ at-most old) (sym (other-here m v (at-most old))) ∙ rw u at opened }
+          record { hit = s .hit; left = before-same rest-keys (at-most old) (headAt t m ∷ at-most old) (sym (other-here m v (at-most old))) ∙ rw u at opened }
 
 -- ---- 16
 
@@ -156,7 +156,7 @@ module _ (ns t : List ℕ) (i j : ℕ) (p : Page) where
   clash-new old e h b = let z : ltb old j ≡ false = le-ltb old j h in rw (b, e, z) (sym (writes-none p))
 
   pub clash-put : (old : ℕ) → clashes ns t i j ≡ doubled ns t old j → old < j → is-key (headAt t j) ≡ true → {q : Page}
-      → q ≡ write p (double (like-by ns (valueAt t old) (valueAt t j)) (spotAt t old) (spotAt t j)) → q ≡ writes p clash-recs
+      → q ≡ write p (double (like-by ns (valueAt t old) (valueAt t j)) (headAt t old) (headAt t j)) → q ≡ writes p clash-recs
   clash-put old e h b w =
       let z : ltb old j ≡ true = lt-ltb old j h in rw (b, e, z) (w ∙ sym (writes-one p _))
 
@@ -171,8 +171,8 @@ dict-step ns {t} {i} {j} {e} p q a lt =
     rw (keys-over q lt, keys-onward p q a lt, before-append) (go (is-key (headAt t j)))
   where
     go : (b : Bool)
-        → doubles (like-by ns) (seen (forestOf t i j)) (listed b (spotAt t j ∷ []) [] ++ keys (forestOf t (j + sizeAt t j) e))
-        ≡ listed b (clashes ns t i j) [] ++ doubles (like-by ns) (before (listed b (spotAt t j ∷ []) []) (seen (forestOf t i j))) (keys (forestOf t (j + sizeAt t j) e))
+        → doubles (like-by ns) (seen (forestOf t i j)) (listed b (headAt t j ∷ []) [] ++ keys (forestOf t (j + sizeAt t j) e))
+        ≡ listed b (clashes ns t i j) [] ++ doubles (like-by ns) (before (listed b (headAt t j ∷ []) []) (seen (forestOf t i j))) (keys (forestOf t (j + sizeAt t j) e))
     go true = rw append-nil
     go false = refl
 
@@ -210,13 +210,13 @@ module _ (t : List ℕ) (i e j : ℕ) (w : Subtree t i) (p : Page) where
         = kind-there 4 below (omega (arith, w .some)) (rw (ej, ee) at h) ∙ rw (ej, ee) in
         rw (z, ne-eqb 20 (kindAt t j) (λ y. k (sym y)), and-false (eqb 5 (kindAt t i))) (sym (writes-none p))
 
-    pub idle-put : kindAt t i ≡ 5 → j < e → kindAt t j ≡ 20 → {q : Page} → q ≡ write p (named-at 17 (spotAt t j)) → q ≡ writes p idle-recs
+    pub idle-put : kindAt t i ≡ 5 → j < e → kindAt t j ≡ 20 → {q : Page} → q ≡ write p (named-at 17 (headAt t j)) → q ≡ writes p idle-recs
     unfolding headAt
     idle-put a h k u =
         let z : kind-at 4 (forestOf t (i + 1) (i + sizeAt t i)) ≡ 20
         = kind-there 4 below (omega (arith, w .some)) (rw (ej, ee) at h) ∙ (rw (ej, ee) at k) in
-        let y : spot-at 4 (forestOf t (i + 1) (i + sizeAt t i)) ≡ spotAt t j
-        = place-there 4 below (omega (arith, w .some)) (rw (ej, ee) at h) ∙ rw (ej, ee) in
+        let y : head-at 4 (forestOf t (i + 1) (i + sizeAt t i)) ≡ headAt t j
+        = head-there 4 below (omega (arith, w .some)) (rw (ej, ee) at h) ∙ rw (ej, ee) in
         rw (a, z, y) (u ∙ sym (writes-one p _))
 
 module _ (ns t : List ℕ) (i e : ℕ) (p : Page) where

@@ -5,7 +5,7 @@ use mathlib.Core.Bool.{Bool, _&&_, _||_}
 use mathlib.Core.List.{List, [], _∷_}
 use lib.Dec.{eqb, ltb}
 use Rattle.tree.specs.Bytes.{valueAt}
-use Rattle.tree.specs.Forest.{Spot, Head, Forest, spotAt, forestOf}
+use Rattle.tree.specs.Forest.{Head, Forest, headAt, forestOf}
 use Rattle.tree.specs.code.Numbers.{like-by}
 use Rattle.rules.specs.Record.{Rec, listed}
 use Rattle.rules.specs.Dubious.{keys, double, against}
@@ -15,18 +15,18 @@ abbrev pub is-key : Head → Bool
 is-key h = eqb 8 (h .role) && (eqb 20 (h .kind) || eqb 21 (h .kind))
 
 -- keys before others, the last first
-unfoldable pub before : List Spot → List Spot → List Spot
+unfoldable pub before : List Head → List Head → List Head
 before [] seen = seen
 before (s ∷ ss) seen = before ss (s ∷ seen)
 
 -- the keys of some siblings, the last first
-abbrev pub seen : Forest → List Spot
+abbrev pub seen : Forest → List Head
 seen f = before (keys f) []
 
 -- 16 for the key at node j, where node r below it is the previous equal key
 abbrev pub doubled : List ℕ → List ℕ → ℕ → ℕ → List Rec
-doubled ns t r j = listed (ltb r j) (double (like-by ns (valueAt t r) (valueAt t j)) (spotAt t r) (spotAt t j) ∷ []) []
+doubled ns t r j = listed (ltb r j) (double (like-by ns (valueAt t r) (valueAt t j)) (headAt t r) (headAt t j) ∷ []) []
 
 -- the key at node j against those of its siblings from node i on
 abbrev pub clashes : List ℕ → List ℕ → ℕ → ℕ → List Rec
-clashes ns t i j = against (like-by ns) (spotAt t j) (seen (forestOf t i j))
+clashes ns t i j = against (like-by ns) (headAt t j) (seen (forestOf t i j))

@@ -29,7 +29,7 @@ pub loads-end : (F : ℕ → Bool) (may : Bool) (h : Head) (k : Forest) (down : 
 loads-end F may h k down a b c = rw (ne-eqb (h .kind) 5 a, ne-eqb (h .kind) 8 b, ne-eqb (h .kind) 13 c, look)
 
 pub loads-load : (F : ℕ → Bool) (may : Bool) (h : Head) (k : Forest) (down : Bool → Loads) → h .kind ≡ 13
-    → loads-part F (h .kind) may h k down ≡ record { may = may; recs = listed (not may) (plainly 12 (h .spot) ∷ []) [] }
+    → loads-part F (h .kind) may h k down ≡ record { may = may; recs = listed (not may) (plainly 12 h ∷ []) [] }
 loads-load F may h k down e = ap (λ (m : ℕ). loads-part F m may h k down) e
 
 pub loads-silent : (F : ℕ → Bool) (may : Bool) (h : Head) (k : Forest) → (h .kind ≡ 13 → ⊥)

@@ -7,7 +7,7 @@ use mathlib.Core.Bool.{Bool, true, false, cond, _&&_, _||_, not}
 use lib.Dec.{eqb, ltb}
 use borrow.Author.Tests.{eq-eqb, eqb-true, ltb-true, ltb-false}
 use Rattle.tree.specs.Bytes.{kindAt, sizeAt}
-use Rattle.tree.specs.Forest.{Forest, none, node, spotAt, headAt, forestOf}
+use Rattle.tree.specs.Forest.{Forest, none, node, headAt, forestOf}
 use Rattle.tree.specs.code.Part.{Part, Subtree}
 use Rattle.tree.specs.code.Find.{childOf}
 use Rattle.tree.proofs.Laws.{ended, forest-none, forest-node}
@@ -197,10 +197,10 @@ side-ends r p h q lt = rw q (ended (child-part p r h) (rw q at lt))
 -- ---- 9
 
 module _ (t : List ℕ) (j e : ℕ) where
-  pub unreached-put : (p : Page) {q : Page} {b : Bool} → Part t j e → b ≡ true → j < e → q ≡ write p (plainly 9 (spotAt t j))
+  pub unreached-put : (p : Page) {q : Page} {b : Bool} → Part t j e → b ≡ true → j < e → q ≡ write p (plainly 9 (headAt t j))
       → q ≡ writes p (listed b (after-stop (forestOf t j e)) [])
   unfolding headAt
-  unreached-put p a b lt w = wrote-one p (plainly 9 (spotAt t j)) w (rw (b, forest-node a lt))
+  unreached-put p a b lt w = wrote-one p (plainly 9 (headAt t j)) w (rw (b, forest-node a lt))
 
   pub unreached-end : (p : Page) {b : Bool} → b ≡ true → e ≤ j → p ≡ writes p (listed b (after-stop (forestOf t j e)) [])
   unreached-end p b h = wrote-none p (rw (b, forest-none t j e h))

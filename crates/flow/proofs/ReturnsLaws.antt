@@ -22,7 +22,7 @@ use Rattle.answer.specs.Page.{Page, write, writes}
 use Rattle.answer.proofs.Laws.{writes-none, writes-one}
 use Rattle.answer.proofs.Flat.{past, over, split, next, walked-both}
 use Rattle.answer.proofs.ByRole.{there, absent, place-there}
-use Rattle.flow.specs.Returns.{Shaped, Tidy, TidyAt, DefAt, spot-if, own}
+use Rattle.flow.specs.Returns.{Shaped, Tidy, TidyAt, DefAt, head-if, own}
 
 -- ---- parts
 
@@ -59,31 +59,31 @@ has-child r {t} {i} {e} p h = go (decLt (childOf t r i e) e)
     go (no l) = le-ltb _ e (omega arith) ∙ sym (absent r (has r) (λ g k. true) false refl (λ g k s b. rw b) (λ g k s b. rw b) p (omega arith))
 
 module _ (is-none : ℕ → Bool) {t : List ℕ} {i e : ℕ} (p : Part t i e) (h : i ≤ e) where
-  abbrev of-type : Head → Forest → Option Spot
-  of-type g k = cond (eqb 20 (g .kind) && is-none (g .spot .value)) none (some (g .spot))
+  abbrev of-type : Head → Forest → Option Head
+  of-type g k = cond (eqb 20 (g .kind) && is-none (g .spot .value)) none (some g)
 
   type-there : childOf t 3 i e < e
       → type-reason is-none (forestOf t i e)
-      ≡ cond (eqb 20 (kindAt t (childOf t 3 i e)) && is-none (valueAt t (childOf t 3 i e))) none (some (spotAt t (childOf t 3 i e)))
+      ≡ cond (eqb 20 (kindAt t (childOf t 3 i e)) && is-none (valueAt t (childOf t 3 i e))) none (some (headAt t (childOf t 3 i e)))
   unfolding headAt spotAt
   type-there lt = there 3 (type-reason is-none) of-type none refl (λ g k s b. rw (b, type-reason)) (λ g k s b. rw (b, type-reason)) p h lt
 
   module _ (j : ℕ) (ej : j ≡ childOf t 3 i e) where
-    pub type-absent : e ≤ j → spot-if t 65536 ≡ type-reason is-none (forestOf t i e)
-    unfolding spot-if
+    pub type-absent : e ≤ j → head-if t 65536 ≡ type-reason is-none (forestOf t i e)
+    unfolding head-if
     type-absent l =
         sym (absent 3 (type-reason is-none) of-type none refl (λ g k s b. rw (b, type-reason)) (λ g k s b. rw (b, type-reason)) p (rw ej at l))
 
-    pub type-none : j < e → kindAt t j ≡ 20 → is-none (valueAt t j) ≡ true → spot-if t 65536 ≡ type-reason is-none (forestOf t i e)
-    unfolding spot-if
+    pub type-none : j < e → kindAt t j ≡ 20 → is-none (valueAt t j) ≡ true → head-if t 65536 ≡ type-reason is-none (forestOf t i e)
+    unfolding head-if
     type-none l a b = sym (type-there (rw ej at l) ∙ rw (← ej, a, b))
 
-    pub type-other : j < e → kindAt t j ≡ 20 → is-none (valueAt t j) ≡ false → spot-if t j ≡ type-reason is-none (forestOf t i e)
-    unfolding spot-if
+    pub type-other : j < e → kindAt t j ≡ 20 → is-none (valueAt t j) ≡ false → head-if t j ≡ type-reason is-none (forestOf t i e)
+    unfolding head-if
     type-other l a b = rw (lt-ltb j 65536 (omega (arith, p .few))) (sym (type-there (rw ej at l) ∙ rw (← ej, a, b)))
 
-    pub type-more : j < e → (kindAt t j ≡ 20 → ⊥) → spot-if t j ≡ type-reason is-none (forestOf t i e)
-    unfolding spot-if
+    pub type-more : j < e → (kindAt t j ≡ 20 → ⊥) → head-if t j ≡ type-reason is-none (forestOf t i e)
+    unfolding head-if
     type-more l a = rw (lt-ltb j 65536 (omega (arith, p .few))) (sym (type-there (rw ej at l) ∙ rw (← ej, ne-eqb 20 (kindAt t j) (λ z. a (sym z)))))
 
 -- ---- the returns, by node numbers
@@ -113,7 +113,7 @@ part-own : (h : Head) (k : Forest) (down : Which → List Return) → (h .kind �
 unfolding own
 part-own h k down d = go (ℕ-discrete (h .kind) 4)
   where
-    go : Dec (h .kind ≡ 4) → returns-part (h .kind) h k down ≡ listed (eqb 4 (h .kind)) (record { spot = h .spot; valued = has 4 k } ∷ []) [] ++ down everything
+    go : Dec (h .kind ≡ 4) → returns-part (h .kind) h k down ≡ listed (eqb 4 (h .kind)) (record { head = h; valued = has 4 k } ∷ []) [] ++ down everything
     go (yes q) = rw q
     go (no q) =
         rw (ne-eqb 4 (h .kind) (λ z. q (sym z)), ne-eqb (h .kind) 4 q, ne-eqb (h .kind) 12 d, look)
@@ -145,8 +145,8 @@ step-some t j s = go (eqb 12 (kindAt t j))
 
 -- ---- the first return with an expression
 
-first-own : (s : Spot) (b v : Bool) (on : List Return)
-    → first-valued (listed b (record { spot = s; valued = v } ∷ []) [] ++ on) ≡ cond (b && v) (some s) (first-valued on)
+first-own : (s : Head) (b v : Bool) (on : List Return)
+    → first-valued (listed b (record { head = s; valued = v } ∷ []) [] ++ on) ≡ cond (b && v) (some s) (first-valued on)
 first-own s true true on = refl
 first-own s true false on = refl
 first-own s false true on = refl
@@ -154,20 +154,20 @@ first-own s false false on = refl
 
 module _ {t : List ℕ} {j e : ℕ} (w : Tidy t j e) (lt : j < e) where
   pub valued-here : (eqb 4 (kindAt t j) && has 4 (forestOf t (j + 1) (j + sizeAt t j))) ≡ true
-      → spot-if t j ≡ first-valued (returns everything (forestOf t j e))
-  unfolding spot-if headAt own
+      → head-if t j ≡ first-valued (returns everything (forestOf t j e))
+  unfolding head-if headAt own
   valued-here q =
       rw (lt-ltb j 65536 (omega (arith, w .part .few)))
-      (sym (ap first-valued (returns-next w lt _ refl) ∙ first-own (spotAt t j) (eqb 4 (kindAt t j)) (has 4 (forestOf t (j + 1) (j + sizeAt t j))) _ ∙ rw q))
+      (sym (ap first-valued (returns-next w lt _ refl) ∙ first-own (headAt t j) (eqb 4 (kindAt t j)) (has 4 (forestOf t (j + 1) (j + sizeAt t j))) _ ∙ rw q))
 
   pub valued-next : (m : ℕ) → m ≡ j + pick (eqb 12 (kindAt t j)) (sizeAt t j) 1 → (eqb 4 (kindAt t j) && has 4 (forestOf t (j + 1) (j + sizeAt t j))) ≡ false
       → first-valued (returns everything (forestOf t m e)) ≡ first-valued (returns everything (forestOf t j e))
   unfolding headAt own
   valued-next m a q =
-      sym (ap first-valued (returns-next w lt m a) ∙ first-own (spotAt t j) (eqb 4 (kindAt t j)) (has 4 (forestOf t (j + 1) (j + sizeAt t j))) _ ∙ rw q)
+      sym (ap first-valued (returns-next w lt m a) ∙ first-own (headAt t j) (eqb 4 (kindAt t j)) (has 4 (forestOf t (j + 1) (j + sizeAt t j))) _ ∙ rw q)
 
-pub valued-end : (t : List ℕ) (j e : ℕ) → e ≤ j → spot-if t 65536 ≡ first-valued (returns everything (forestOf t j e))
-unfolding spot-if
+pub valued-end : (t : List ℕ) (j e : ℕ) → e ≤ j → head-if t 65536 ≡ first-valued (returns everything (forestOf t j e))
+unfolding head-if
 valued-end t j e h = rw (returns-past t j e h)
 
 -- ---- a def's one body
@@ -207,16 +207,16 @@ body-one {t} p m b q lt = rw q (seek 1 Q t nothing here next p m (rw q at lt))
 
 -- ---- why a def wants a value
 
-module _ (is-none : ℕ → Bool) {t : List ℕ} {i e : ℕ} (d : DefAt t i) (j : ℕ) (typed : spot-if t j ≡ type-reason is-none (forestOf t (i + 1) e)) where
-  pub reason-type : e ≡ i + sizeAt t i → j < 65536 → spot-if t j ≡ reason is-none (forestOf t (i + 1) (i + sizeAt t i))
-  unfolding spot-if
+module _ (is-none : ℕ → Bool) {t : List ℕ} {i e : ℕ} (d : DefAt t i) (j : ℕ) (typed : head-if t j ≡ type-reason is-none (forestOf t (i + 1) e)) where
+  pub reason-type : e ≡ i + sizeAt t i → j < 65536 → head-if t j ≡ reason is-none (forestOf t (i + 1) (i + sizeAt t i))
+  unfolding head-if
   reason-type ee l =
-      let z : type-reason is-none (forestOf t (i + 1) (i + sizeAt t i)) ≡ some (spotAt t j) = rw (lt-ltb j 65536 l, ee) at (sym typed) in
+      let z : type-reason is-none (forestOf t (i + 1) (i + sizeAt t i)) ≡ some (headAt t j) = rw (lt-ltb j 65536 l, ee) at (sym typed) in
       rw (z, lt-ltb j 65536 l)
 
   pub reason-return : e ≡ i + sizeAt t i → 65536 ≤ j → (b x : ℕ) → b ≡ childOf t 1 (i + 1) e
-      → spot-if t x ≡ first-valued (returns everything (forestOf t b (b + sizeAt t b))) → spot-if t x ≡ reason is-none (forestOf t (i + 1) (i + sizeAt t i))
-  unfolding spot-if
+      → head-if t x ≡ first-valued (returns everything (forestOf t b (b + sizeAt t b))) → head-if t x ≡ reason is-none (forestOf t (i + 1) (i + sizeAt t i))
+  unfolding head-if
   reason-return ee l b x eb u =
       let z : type-reason is-none (forestOf t (i + 1) (i + sizeAt t i)) ≡ none = rw (le-ltb j 65536 l, ee) at (sym typed) in
       let s = def-shaped d in
@@ -233,27 +233,27 @@ body-tidy {t} {i} d b q =
 
 -- ---- 8 and 7
 
-bare-append : (h : Head) (name why : Spot) (xs ys : List Return) → bare-recs h name why (xs ++ ys) ≡ bare-recs h name why xs ++ bare-recs h name why ys
+bare-append : (h : Head) (name : Spot) (why : Head) (xs ys : List Return) → bare-recs h name why (xs ++ ys) ≡ bare-recs h name why xs ++ bare-recs h name why ys
 bare-append h name why [] ys = refl
 bare-append h name why (x ∷ xs) ys = go (not (x .valued)) (bare-append h name why xs ys)
   where
     go : (b : Bool) → bare-recs h name why (xs ++ ys) ≡ bare-recs h name why xs ++ bare-recs h name why ys
-        → listed b (missing-expression h name why (x .spot) ∷ []) (bare-recs h name why (xs ++ ys))
-        ≡ listed b (missing-expression h name why (x .spot) ∷ []) (bare-recs h name why xs) ++ bare-recs h name why ys
-    go true f = ap (λ (l : List Rec). missing-expression h name why (x .spot) ∷ l) f
+        → listed b (missing-expression h name why (x .head) ∷ []) (bare-recs h name why (xs ++ ys))
+        ≡ listed b (missing-expression h name why (x .head) ∷ []) (bare-recs h name why xs) ++ bare-recs h name why ys
+    go true f = ap (λ (l : List Rec). missing-expression h name why (x .head) ∷ l) f
     go false f = f
 
-pub bare-next : (h : Head) (name why : Spot) {t : List ℕ} {j e : ℕ} → Tidy t j e → j < e → (m : ℕ) → m ≡ j + pick (eqb 12 (kindAt t j)) (sizeAt t j) 1
+pub bare-next : (h : Head) (name : Spot) (why : Head) {t : List ℕ} {j e : ℕ} → Tidy t j e → j < e → (m : ℕ) → m ≡ j + pick (eqb 12 (kindAt t j)) (sizeAt t j) 1
     → bare-recs h name why (returns everything (forestOf t j e))
     ≡ bare-recs h name why (own (headAt t j) (forestOf t (j + 1) (j + sizeAt t j))) ++ bare-recs h name why (returns everything (forestOf t m e))
 bare-next h name why {t} {j} {e} w lt m q =
     ap (bare-recs h name why) (returns-next w lt m q)
     ∙ bare-append h name why (own (headAt t j) (forestOf t (j + 1) (j + sizeAt t j))) (returns everything (forestOf t m e))
 
-pub bare-past : (h : Head) (name why : Spot) (t : List ℕ) (j e : ℕ) → e ≤ j → bare-recs h name why (returns everything (forestOf t j e)) ≡ []
+pub bare-past : (h : Head) (name : Spot) (why : Head) (t : List ℕ) (j e : ℕ) → e ≤ j → bare-recs h name why (returns everything (forestOf t j e)) ≡ []
 bare-past h name why t j e l = rw (returns-past t j e l)
 
-module _ (t : List ℕ) (j : ℕ) (h : Head) (name why : Spot) (p : Page) where
+module _ (t : List ℕ) (j : ℕ) (h : Head) (name : Spot) (why : Head) (p : Page) where
   abbrev pub bare-one : List Rec
   bare-one = bare-recs h name why (own (headAt t j) (forestOf t (j + 1) (j + sizeAt t j)))
 
@@ -266,7 +266,7 @@ module _ (t : List ℕ) (j : ℕ) (h : Head) (name why : Spot) (p : Page) where
   bare-valued q v = rw (q, v) (sym (writes-none p))
 
   pub bare-put : kindAt t j ≡ 4 → has 4 (forestOf t (j + 1) (j + sizeAt t j)) ≡ false → {q : Page}
-      → q ≡ write p (missing-expression h name why (spotAt t j)) → q ≡ writes p bare-one
+      → q ≡ write p (missing-expression h name why (headAt t j)) → q ≡ writes p bare-one
   unfolding headAt own
   bare-put q v w = rw (q, v) (w ∙ sym (writes-one p _))
 
@@ -283,17 +283,17 @@ listed-before false xs ys = refl
 
 module _ (is-fail is-none : ℕ → Bool) {t : List ℕ} {i : ℕ} (d : DefAt t i) (why : ℕ) (p : Page) where
   abbrev pub def-recs : List Rec
-  def-recs = check-for is-fail is-none (headAt t i) (forestOf t (i + 1) (i + sizeAt t i)) (spot-if t why)
+  def-recs = check-for is-fail is-none (headAt t i) (forestOf t (i + 1) (i + sizeAt t i)) (head-if t why)
 
   pub for-none : 65536 ≤ why → p ≡ writes p def-recs
-  unfolding spot-if
+  unfolding head-if
   for-none h = rw (le-ltb why 65536 h) (sym (writes-none p))
 
   pub for-both : why < 65536 → (name b : ℕ) → name ≡ childOf t 6 (i + 1) (i + sizeAt t i) → b ≡ childOf t 1 (i + 1) (i + sizeAt t i) → {q r : Page}
-      → q ≡ writes p (listed (not (ends is-fail 1 (forestOf t (i + 1) (i + sizeAt t i)))) (missing (headAt t i) (spotAt t name) (spotAt t why) ∷ []) [])
-      → r ≡ writes q (bare-recs (headAt t i) (spotAt t name) (spotAt t why) (returns everything (forestOf t b (b + sizeAt t b))))
+      → q ≡ writes p (listed (not (ends is-fail 1 (forestOf t (i + 1) (i + sizeAt t i)))) (missing (headAt t i) (spotAt t name) (headAt t why) ∷ []) [])
+      → r ≡ writes q (bare-recs (headAt t i) (spotAt t name) (headAt t why) (returns everything (forestOf t b (b + sizeAt t b))))
       → r ≡ writes p def-recs
-  unfolding spot-if
+  unfolding head-if
   for-both h name b en eb u v =
       let s = def-shaped d in
       let w = kids (d .at .tidy .part) (omega (arith, d .at .some)) in
@@ -314,8 +314,8 @@ module _ (is-fail is-none : ℕ → Bool) where
     stmt-no q =
         sym (writes-none p) ∙ ap (writes p) (sym (rw (ne-eqb (kindAt t i) 12 q, look)))
 
-    pub stmt-def : kindAt t i ≡ 12 → (why : ℕ) → spot-if t why ≡ reason is-none (forestOf t (i + 1) (i + sizeAt t i)) → {q : Page}
-        → q ≡ writes p (check-for is-fail is-none (headAt t i) (forestOf t (i + 1) (i + sizeAt t i)) (spot-if t why)) → q ≡ writes p stmt-recs
+    pub stmt-def : kindAt t i ≡ 12 → (why : ℕ) → head-if t why ≡ reason is-none (forestOf t (i + 1) (i + sizeAt t i)) → {q : Page}
+        → q ≡ writes p (check-for is-fail is-none (headAt t i) (forestOf t (i + 1) (i + sizeAt t i)) (head-if t why)) → q ≡ writes p stmt-recs
     unfolding headAt
     stmt-def k why u w = rw k (rw k at (rw u at w))
 

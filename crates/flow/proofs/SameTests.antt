@@ -5,7 +5,7 @@ use mathlib.Core.Bool.{Bool, true, false, cond, _&&_, _||_, not}
 use mathlib.Core.List.{List, [], _∷_, _++_}
 use mathlib.Core.Option.{Option, none, some}
 use lib.Dec.{eqb}
-use Rattle.tree.specs.Forest.{Spot, Head, Forest, Forest.none as leaf, node}
+use Rattle.tree.specs.Forest.{Head, Forest, Forest.none as leaf, node}
 use Rattle.tree.proofs.Fields.{Small, small-node}
 use Rattle.rules.specs.Record.{Rec, listed}
 use Rattle.rules.specs.Visit.{look, has, spot-at, last-of}
@@ -61,16 +61,16 @@ module _ (p q : ℕ → Bool) (agree : (v : ℕ) → v < 65536 → p v ≡ q v) 
   type-same : (f : Forest) → Small f → type-reason p f ≡ type-reason q f
   type-same leaf w = refl
   type-same (node h k s) (small-node a u v) =
-      ap₂ (λ (x : Bool) (y : Option Spot). elim (eqb 3 (h .role)) [
+      ap₂ (λ (x : Bool) (y : Option Head). elim (eqb 3 (h .role)) [
         | false ↦ y
-        | true ↦ cond (eqb 20 (h .kind) && x) none (some (h .spot))
+        | true ↦ cond (eqb 20 (h .kind) && x) none (some h)
       ]) (agree (h .spot .value) a) (type-same s v)
 
   reason-same : (f : Forest) → Small f → reason p f ≡ reason q f
-  reason-same f w = ap (λ (x : Option Spot). or-else x (first-valued (returns the-body f))) (type-same f w)
+  reason-same f w = ap (λ (x : Option Head). or-else x (first-valued (returns the-body f))) (type-same f w)
 
 module _ (p q : ℕ → Bool) (agree : (v : ℕ) → v < 65536 → p v ≡ q v) (p′ q′ : ℕ → Bool) (agree′ : (v : ℕ) → v < 65536 → p′ v ≡ q′ v) where
-  for-same : (h : Head) (k : Forest) → Small k → (o : Option Spot) → check-for p p′ h k o ≡ check-for q q′ h k o
+  for-same : (h : Head) (k : Forest) → Small k → (o : Option Head) → check-for p p′ h k o ≡ check-for q q′ h k o
   for-same h k w none = refl
   for-same h k w (some why) =
       ap (λ (x : Bool). listed (not x) (missing h (spot-at 6 k) why ∷ []) (bare-recs h (spot-at 6 k) why (returns the-body k))) (ends-same p q agree k w 1)

@@ -19,7 +19,7 @@ use Rattle.rules.proofs.Look.{look-all}
 use Rattle.answer.specs.Page.{Page, write, writes}
 use Rattle.answer.proofs.Laws.{writes-none, writes-one}
 use Rattle.answer.proofs.Flat.{past, over, split}
-use Rattle.answer.proofs.ByRole.{place-there}
+use Rattle.answer.proofs.ByRole.{head-there}
 use Rattle.tree.specs.Children.{slotOf}
 use Rattle.tree.proofs.Roles.{kid-there}
 use Rattle.tree.proofs.Whole.{sound}
@@ -182,11 +182,11 @@ module _ (strings : List Bool) (t : List ℕ) (i : ℕ) where
   pub idle-put : (p : Page) {q : Page} {b : Bool} → Subtree t i → kindAt t i ≡ 5
       → b ≡ effect (is-text strings) (forestOf t (i + 1) (i + sizeAt t i)) → b ≡ false → (c : ℕ)
       → c ≡ childOf t 4 (i + 1) (i + sizeAt t i) → c < i + sizeAt t i
-      → q ≡ write p (plainly 13 (spotAt t c)) → q ≡ writes p idle-here
+      → q ≡ write p (plainly 13 (headAt t c)) → q ≡ writes p idle-here
   unfolding headAt
   idle-put p w k e h c y lt q =
-      wrote-one p (plainly 13 (spotAt t c)) q
-      (rw (k, sym e ∙ h) (ap (λ (s : Spot). plainly 13 s ∷ []) (place-there 4 (below w) (omega (arith, w .some)) (rw y at lt) ∙ ap (spotAt t) (sym y))))
+      wrote-one p (plainly 13 (headAt t c)) q
+      (rw (k, sym e ∙ h) (ap (λ (s : Head). plainly 13 s ∷ []) (head-there 4 (below w) (omega (arith, w .some)) (rw y at lt) ∙ ap (headAt t) (sym y))))
 
 module _ (strings : List Bool) where
   abbrev walk : Forest → List Rec
@@ -271,9 +271,9 @@ module _ (strings : List Bool) (may : Bool) (t : List ℕ) (j : ℕ) where
   unfolding headAt
   load-allowed p k m = wrote-none p (ap (λ (l : Loads). l .recs) (loads-load (is-text strings) may (headAt t j) (forestOf t (j + 1) (j + sizeAt t j)) (λ v. record { may = v; recs = [] }) k) ∙ rw m)
 
-  pub load-put : (p : Page) {q : Page} → kindAt t j ≡ 13 → may ≡ false → q ≡ write p (plainly 12 (spotAt t j)) → q ≡ writes p (load-here .recs)
+  pub load-put : (p : Page) {q : Page} → kindAt t j ≡ 13 → may ≡ false → q ≡ write p (plainly 12 (headAt t j)) → q ≡ writes p (load-here .recs)
   unfolding headAt
-  load-put p k m q = wrote-one p (plainly 12 (spotAt t j)) q (ap (λ (l : Loads). l .recs) (loads-load (is-text strings) may (headAt t j) (forestOf t (j + 1) (j + sizeAt t j)) (λ v. record { may = v; recs = [] }) k) ∙ rw m)
+  load-put p k m q = wrote-one p (plainly 12 (headAt t j)) q (ap (λ (l : Loads). l .recs) (loads-load (is-text strings) may (headAt t j) (forestOf t (j + 1) (j + sizeAt t j)) (λ v. record { may = v; recs = [] }) k) ∙ rw m)
 
 module _ (F : ℕ → Bool) where
   loads-beside : (a b : Forest) (may : Bool)

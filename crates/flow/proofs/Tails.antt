@@ -6,7 +6,7 @@ use mathlib.Core.Path.{_≡_, refl, sym, ap, _∙_}
 use mathlib.Core.List.{List, [], _∷_, _++_, append-assoc}
 use mathlib.Core.Bool.{Bool, true, false, _&&_, not}
 use Rattle.tree.specs.Bytes.{kindAt, sizeAt}
-use Rattle.tree.specs.Forest.{Head, Forest, node, spotAt, headAt, forestOf}
+use Rattle.tree.specs.Forest.{Head, Forest, node, headAt, forestOf}
 use Rattle.tree.specs.code.Part.{Part, Subtree}
 use Rattle.tree.specs.code.Find.{childOf}
 use Rattle.tree.proofs.Laws.{later, forest-none, forest-node}
@@ -34,7 +34,7 @@ module _ (loops : Bool) (t : List ℕ) (i : ℕ) where
   under = forestOf t (i + 1) (i + sizeAt t i)
 
   abbrev pub bare-here : List Rec
-  bare-here = listed (not loops && not (has 4 under)) (plainly 10 (spotAt t i) ∷ []) []
+  bare-here = listed (not loops && not (has 4 under)) (plainly 10 (headAt t i) ∷ []) []
 
   pub bare-loops : (p : Page) → loops ≡ true → p ≡ writes p bare-here
   bare-loops p e = wrote-none p (rw e)
@@ -44,14 +44,14 @@ module _ (loops : Bool) (t : List ℕ) (i : ℕ) where
       let z : not (has 4 under) ≡ false = rw (has-there 4 (below w) (omega (arith, w .some)) (rw (b, a) at lt)) in
       wrote-none p (rw z (never (not loops)))
     where
-      never : (b : Bool) → listed (b && false) (plainly 10 (spotAt t i) ∷ []) [] ≡ []
+      never : (b : Bool) → listed (b && false) (plainly 10 (headAt t i) ∷ []) [] ≡ []
       never true = refl
       never false = refl
 
   pub bare-put : (p : Page) {q : Page} {e c : ℕ} → Subtree t i → loops ≡ false → e ≡ i + sizeAt t i → c ≡ childOf t 4 (i + 1) e → e ≤ c
-      → q ≡ write p (plainly 10 (spotAt t i)) → q ≡ writes p bare-here
+      → q ≡ write p (plainly 10 (headAt t i)) → q ≡ writes p bare-here
   bare-put p {q} {e} {c} w l a b h r =
-      wrote-one p (plainly 10 (spotAt t i)) r (rw (l, has-absent 4 (below w) (rw (b, a) at h)))
+      wrote-one p (plainly 10 (headAt t i)) r (rw (l, has-absent 4 (below w) (rw (b, a) at h)))
 
   -- the statement at node i, last
   abbrev pub tail-here : List Rec
@@ -61,7 +61,7 @@ module _ (loops : Bool) (t : List ℕ) (i : ℕ) where
   unfolding headAt
   at-kind m e = ap (λ (x : ℕ). tail-part x loops (headAt t i) under (λ v. tail loops v under)) e
 
-  pub check-continue : (p : Page) {q : Page} → kindAt t i ≡ 2 → q ≡ writes p (listed loops (plainly 11 (spotAt t i) ∷ []) []) → q ≡ writes p tail-here
+  pub check-continue : (p : Page) {q : Page} → kindAt t i ≡ 2 → q ≡ writes p (listed loops (plainly 11 (headAt t i) ∷ []) []) → q ≡ writes p tail-here
   unfolding headAt
   check-continue p e w =
       w ∙ ap (writes p) (sym (at-kind 2 e))

@@ -7,7 +7,7 @@ use mathlib.Core.List.{List, [], _∷_}
 use mathlib.Core.Option.{Option, none, some}
 use lib.Dec.{eqb, ltb}
 use Rattle.tree.specs.Bytes.{kindAt, sizeAt}
-use Rattle.tree.specs.Forest.{Spot, Head, Forest, Forest.none as leaf, node, spotAt, headAt, forestOf}
+use Rattle.tree.specs.Forest.{Head, Forest, Forest.none as leaf, node, headAt, forestOf}
 use Rattle.tree.specs.code.Part.{Part}
 use Rattle.tree.specs.code.Find.{kidOf}
 use Rattle.tree.specs.Children.{many}
@@ -63,13 +63,13 @@ pub record DefAt (t : List ℕ) (i : ℕ) : Type 0 where
   pub at : TidyAt t i
   pub kind : kindAt t i ≡ 12
 
--- the spot of node j; 65536, which is no node's number, stands for none
-unfoldable pub spot-if : List ℕ → ℕ → Option Spot
-spot-if t j = cond (ltb j 65536) (some (spotAt t j)) none
+-- the head of node j; 65536, which is no node's number, stands for none
+unfoldable pub head-if : List ℕ → ℕ → Option Head
+head-if t j = cond (ltb j 65536) (some (headAt t j)) none
 
 -- what a node is itself among the returns
 unfoldable pub own : Head → Forest → List Return
-own h k = listed (eqb 4 (h .kind)) (record { spot = h .spot; valued = has 4 k } ∷ []) []
+own h k = listed (eqb 4 (h .kind)) (record { head = h; valued = has 4 k } ∷ []) []
 
 -- ---- the whole call
 

@@ -4,7 +4,7 @@ ghost use mathlib.Core.Bool.{_&&_, not};
 ghost use mathlib.Core.List.{[], _∷_, _++_};
 ghost use Prim.Native.Nat.{_+_, _≤_};
 ghost use Rattle.tree.specs.Bytes.{sizeAt};
-ghost use Rattle.tree.specs.Forest.{spotAt, headAt, forestOf};
+ghost use Rattle.tree.specs.Forest.{headAt, forestOf};
 ghost use Rattle.tree.specs.code.Part.{Part, Subtree};
 ghost use Rattle.rules.specs.Record.{plainly, listed};
 ghost use Rattle.rules.specs.Visit.{has};
@@ -19,7 +19,7 @@ use tree::children::child_of;
 
 // 11 where node i is a continue that ends a loop's body.
 fn continues(t: &[u8], loops: bool, i: usize, out: &mut [u32], s: Sheet) -> Sheet
-    ensures { λ r. ⌜ page (now (out .exit)) r ≡ writes (page (now (out .entry)) s) (listed loops (plainly 11 (spotAt (now (t .entry)) i) ∷ []) []) ⌝ }
+    ensures { λ r. ⌜ page (now (out .exit)) r ≡ writes (page (now (out .entry)) s) (listed loops (plainly 11 (headAt (now (t .entry)) i) ∷ []) []) ⌝ }
 {
     if loops {
         return put_plainly(t, out, s, 11, i);
@@ -30,7 +30,7 @@ fn continues(t: &[u8], loops: bool, i: usize, out: &mut [u32], s: Sheet) -> Shee
 // 10 where node i, a return, is bare and ends a def's body.
 fn bare(t: &[u8], loops: bool, i: usize, out: &mut [u32], s: Sheet) -> Sheet
     requires { ⌜ Subtree (now t) i ⌝ }
-    ensures { λ r. ⌜ page (now (out .exit)) r ≡ writes (page (now (out .entry)) s) (listed (not loops && not (has 4 (forestOf (now (t .entry)) (i + 1) (i + sizeAt (now (t .entry)) i)))) (plainly 10 (spotAt (now (t .entry)) i) ∷ []) []) ⌝ }
+    ensures { λ r. ⌜ page (now (out .exit)) r ≡ writes (page (now (out .entry)) s) (listed (not loops && not (has 4 (forestOf (now (t .entry)) (i + 1) (i + sizeAt (now (t .entry)) i)))) (plainly 10 (headAt (now (t .entry)) i) ∷ []) []) ⌝ }
 {
     if loops {
         return s;

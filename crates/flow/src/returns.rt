@@ -11,7 +11,7 @@ ghost use Rattle.rules.specs.Record.{listed};
 ghost use Rattle.rules.specs.Visit.{has};
 ghost use Rattle.rules.specs.Flow.{everything, returns, type-reason, reason, first-valued, ends, missing, bare-recs, check-for, check, returns-walk};
 ghost use Rattle.answer.specs.Page.{writes, page};
-ghost use Rattle.flow.specs.Returns.{Tidy, TidyAt, DefAt, spot-if, own};
+ghost use Rattle.flow.specs.Returns.{Tidy, TidyAt, DefAt, head-if, own};
 use crate::ends::final_return;
 use answer::Note;
 use answer::Place;
@@ -58,7 +58,7 @@ fn is_valued_return(t: &[u8], j: usize) -> bool
 // The first return with an expression from node i up to e, outside nested defs.
 fn first_valued(t: &[u8], i: usize, e: usize) -> usize
     requires { ⌜ Tidy (now t) i e ⌝ }
-    ensures { λ r. ⌜ spot-if (now (t .entry)) r ≡ first-valued (returns everything (forestOf (now (t .entry)) i e)) ⌝ }
+    ensures { λ r. ⌜ head-if (now (t .entry)) r ≡ first-valued (returns everything (forestOf (now (t .entry)) i e)) ⌝ }
 {
     let mut j = i;
     while j < e {
@@ -73,7 +73,7 @@ fn first_valued(t: &[u8], i: usize, e: usize) -> usize
 // A return type other than the identifier None.
 fn require_return_expression(t: &[u8], none: usize, i: usize, e: usize) -> usize
     requires { ⌜ Part (now t) i e × (i ≤ e) ⌝ }
-    ensures { λ r. ⌜ spot-if (now (t .entry)) r ≡ type-reason (λ v. eqb v none) (forestOf (now (t .entry)) i e) ⌝ }
+    ensures { λ r. ⌜ head-if (now (t .entry)) r ≡ type-reason (λ v. eqb v none) (forestOf (now (t .entry)) i e) ⌝ }
 {
     let j = child_of(t, 3, i, e);
     if e <= j {
@@ -90,7 +90,7 @@ fn require_return_expression(t: &[u8], none: usize, i: usize, e: usize) -> usize
 // Why the def at node i wants a value.
 fn reason(t: &[u8], none: usize, i: usize) -> usize
     requires { ⌜ DefAt (now t) i ⌝ }
-    ensures { λ r. ⌜ spot-if (now (t .entry)) r ≡ reason (λ v. eqb v none) (forestOf (now (t .entry)) (i + 1) (i + sizeAt (now (t .entry)) i)) ⌝ }
+    ensures { λ r. ⌜ head-if (now (t .entry)) r ≡ reason (λ v. eqb v none) (forestOf (now (t .entry)) (i + 1) (i + sizeAt (now (t .entry)) i)) ⌝ }
 {
     let e = i + size_at(t, i);
     let j = require_return_expression(t, none, i + 1, e);
@@ -112,7 +112,7 @@ fn missing_return(
     s: Sheet,
 ) -> Sheet
     requires { ⌜ Subtree (now t) i ⌝ }
-    ensures { λ r. ⌜ page (now (out .exit)) r ≡ writes (page (now (out .entry)) s) (listed (not (ends (λ v. eqb v fail) 1 (forestOf (now (t .entry)) (i + 1) (i + sizeAt (now (t .entry)) i)))) (missing (headAt (now (t .entry)) i) (spotAt (now (t .entry)) name) (spotAt (now (t .entry)) why) ∷ []) []) ⌝ }
+    ensures { λ r. ⌜ page (now (out .exit)) r ≡ writes (page (now (out .entry)) s) (listed (not (ends (λ v. eqb v fail) 1 (forestOf (now (t .entry)) (i + 1) (i + sizeAt (now (t .entry)) i)))) (missing (headAt (now (t .entry)) i) (spotAt (now (t .entry)) name) (headAt (now (t .entry)) why) ∷ []) []) ⌝ }
 {
     if final_return(t, fail, 1, i + 1, i + size_at(t, i)) {
         return s;
@@ -142,7 +142,7 @@ fn bare_return(
     s: Sheet,
 ) -> Sheet
     requires { ⌜ Subtree (now t) j ⌝ }
-    ensures { λ r. ⌜ page (now (out .exit)) r ≡ writes (page (now (out .entry)) s) (bare-recs (headAt (now (t .entry)) i) (spotAt (now (t .entry)) name) (spotAt (now (t .entry)) why) (own (headAt (now (t .entry)) j) (forestOf (now (t .entry)) (j + 1) (j + sizeAt (now (t .entry)) j)))) ⌝ }
+    ensures { λ r. ⌜ page (now (out .exit)) r ≡ writes (page (now (out .entry)) s) (bare-recs (headAt (now (t .entry)) i) (spotAt (now (t .entry)) name) (headAt (now (t .entry)) why) (own (headAt (now (t .entry)) j) (forestOf (now (t .entry)) (j + 1) (j + sizeAt (now (t .entry)) j)))) ⌝ }
 {
     if kind_at(t, j) != 4 {
         return s;
@@ -176,7 +176,7 @@ fn bare_returns(
     s: Sheet,
 ) -> Sheet
     requires { ⌜ Tidy (now t) b e ⌝ }
-    ensures { λ r. ⌜ page (now (out .exit)) r ≡ writes (page (now (out .entry)) s) (bare-recs (headAt (now (t .entry)) i) (spotAt (now (t .entry)) name) (spotAt (now (t .entry)) why) (returns everything (forestOf (now (t .entry)) b e))) ⌝ }
+    ensures { λ r. ⌜ page (now (out .exit)) r ≡ writes (page (now (out .entry)) s) (bare-recs (headAt (now (t .entry)) i) (spotAt (now (t .entry)) name) (headAt (now (t .entry)) why) (returns everything (forestOf (now (t .entry)) b e))) ⌝ }
 {
     let mut r = s;
     let mut j = b;
@@ -190,7 +190,7 @@ fn bare_returns(
 // The def at node i, which wants a value because of node why.
 fn check_for(t: &[u8], fail: usize, i: usize, why: usize, out: &mut [u32], s: Sheet) -> Sheet
     requires { ⌜ DefAt (now t) i ⌝ }
-    ensures { λ r. ⌜ ((is-none : ℕ → Bool) → page (now (out .exit)) r ≡ writes (page (now (out .entry)) s) (check-for (λ v. eqb v fail) is-none (headAt (now (t .entry)) i) (forestOf (now (t .entry)) (i + 1) (i + sizeAt (now (t .entry)) i)) (spot-if (now (t .entry)) why))) ⌝ }
+    ensures { λ r. ⌜ ((is-none : ℕ → Bool) → page (now (out .exit)) r ≡ writes (page (now (out .entry)) s) (check-for (λ v. eqb v fail) is-none (headAt (now (t .entry)) i) (forestOf (now (t .entry)) (i + 1) (i + sizeAt (now (t .entry)) i)) (head-if (now (t .entry)) why))) ⌝ }
 {
     if NONE <= why {
         return s;

@@ -15,13 +15,13 @@ use Rattle.tree.specs.code.Find.{childOf, from-role}
 use Rattle.tree.proofs.Search.{clash}
 use Rattle.tree.proofs.Laws.{sized, ended, kids, rest, forest-none}
 use Rattle.tree.proofs.Find.{child-node, child-none, child-role, child-ge, child-part}
-use Rattle.rules.specs.Record.{Rec, named-at, with-value, listed}
-use Rattle.rules.specs.Visit.{spot-at, each, kind-at, under, how-many}
+use Rattle.rules.specs.Record.{Rec, valued-at, listed}
+use Rattle.rules.specs.Visit.{head-at, spot-at, each, kind-at, under, how-many}
 use Rattle.rules.specs.Incompatible.{identifier, type-check, check-at}
 use Rattle.answer.specs.Page.{Page, write, writes}
 use Rattle.answer.proofs.Laws.{writes-none, writes-one}
 use Rattle.answer.proofs.Flat.{past, next}
-use Rattle.answer.proofs.ByRole.{kind-there, kind-absent, place-there, under-there}
+use Rattle.answer.proofs.ByRole.{head-there, kind-there, kind-absent, place-there, under-there}
 use Rattle.incompatible.specs.declared.types.Types.{Types}
 use Rattle.incompatible.specs.Five.{is, five, type-call}
 
@@ -46,6 +46,9 @@ or-true false = refl
 -- ---- the first child of a role, at c
 
 module _ (r : ℕ) {t : List ℕ} {i e c : ℕ} (part : Part t i e) (le : i ≤ e) (ec : c ≡ childOf t r i e) where
+  pub head-is : c < e → head-at r (forestOf t i e) ≡ headAt t c
+  head-is h = head-there r part le (rw ec at h) ∙ rw ec
+
   pub kind-is : c < e → kind-at r (forestOf t i e) ≡ kindAt t c
   kind-is h = kind-there r part le (rw ec at h) ∙ rw ec
 
@@ -179,7 +182,7 @@ module _ (names : Types) (t : List ℕ) (i : ℕ) (p : Page) where
 
     pub check-put : {c : ℕ} → c ≡ childOf t 2 (i + 1) e → Subtree t i → true ≡ (eqb 31 (kindAt t i) || eqb 32 (kindAt t i))
         → true ≡ type-call (names .call) (forestOf t (i + 1) e) → true ≡ identifier 2 (five names) (forestOf t (i + 1) e) → {q : Page}
-        → q ≡ write p (named-at 14 (with-value (spotAt t i) (spotAt t c .value))) → q ≡ writes p check-recs
+        → q ≡ write p (valued-at 14 (headAt t i) (spotAt t c .value)) → q ≡ writes p check-recs
     unfolding headAt
     check-put {c} ec w a b d u =
         let part : Part t (i + 1) e = rw ee (kids (w .part) (omega (arith, w .some))) in

@@ -24,7 +24,7 @@ use Rattle.answer.proofs.Flat.{past, over, split}
 use Rattle.incompatible.specs.declared.assigns.Defined.{Defined}
 use Rattle.incompatible.specs.Ground.{Low}
 use Rattle.incompatible.specs.Ledger.{named-one, below-one, is-several, goes-in, top-of, deeds-one, top-assign, Does}
-use Rattle.incompatible.proofs.Checks.{not-eqb, and-false, kind-is, spot-is, kind-missing}
+use Rattle.incompatible.proofs.Checks.{not-eqb, and-false, head-is, kind-is, spot-is, kind-missing}
 use Rattle.incompatible.proofs.Told.{does-none}
 
 -- ---- what a node binds
@@ -32,7 +32,7 @@ use Rattle.incompatible.proofs.Told.{does-none}
 abbrev pub bound : ℕ → Bool
 bound k = eqb k 40 || (eqb k 43 || eqb k 47)
 
-pub binds-one : (k : ℕ) (s : Spot) (down : ℕ → List Deed) → true ≡ bound k → deed-part (look k bindings nothing) s down ≡ defines (eqb k 47) s ∷ []
+pub binds-one : (k : ℕ) (s : Head) (down : ℕ → List Deed) → true ≡ bound k → deed-part (look k bindings nothing) s down ≡ defines (eqb k 47) s ∷ []
 binds-one k s down b = go (ℕ-discrete k 40) (ℕ-discrete k 43) (ℕ-discrete k 47)
   where
     go : Dec (k ≡ 40) → Dec (k ≡ 43) → Dec (k ≡ 47) → deed-part (look k bindings nothing) s down ≡ defines (eqb k 47) s ∷ []
@@ -41,17 +41,17 @@ binds-one k s down b = go (ℕ-discrete k 40) (ℕ-discrete k 43) (ℕ-discrete 
     go (no x) (no y) (yes e) = rw e
     go (no x) (no y) (no z) = clash (sym b) (rw (ne-eqb k 40 x, ne-eqb k 43 y, ne-eqb k 47 z))
 
-pub binds-none : (k : ℕ) (s : Spot) (down : ℕ → List Deed) → false ≡ bound k → (k ≡ 41 → ⊥) → deed-part (look k bindings nothing) s down ≡ []
+pub binds-none : (k : ℕ) (s : Head) (down : ℕ → List Deed) → false ≡ bound k → (k ≡ 41 → ⊥) → deed-part (look k bindings nothing) s down ≡ []
 binds-none k s down =
     look-all (λ n b. false ≡ bound n → (n ≡ 41 → ⊥) → deed-part b s down ≡ []) k bindings nothing
     ((λ e n. clash refl (sym e)), ((λ e n. absurd (n refl)), ((λ e n. clash refl (sym e)), ((λ e n. clash refl (sym e)), tt)))) (λ e n. refl)
 
-binds-below : (k : ℕ) (s : Spot) → false ≡ bound k → deed-part (look k bindings nothing) s (λ v. []) ≡ []
+binds-below : (k : ℕ) (s : Head) → false ≡ bound k → deed-part (look k bindings nothing) s (λ v. []) ≡ []
 binds-below k s =
     look-all (λ n b. false ≡ bound n → deed-part b s (λ v. []) ≡ []) k bindings nothing
     ((λ e. clash refl (sym e)), ((λ e. refl), ((λ e. clash refl (sym e)), ((λ e. clash refl (sym e)), tt)))) (λ e. refl)
 
-binds-alike : (k : ℕ) (s : Spot) (down : ℕ → List Deed) → (k ≡ 41 → ⊥) → deed-part (look k bindings nothing) s down ≡ deed-part (look k bindings nothing) s (λ v. [])
+binds-alike : (k : ℕ) (s : Head) (down : ℕ → List Deed) → (k ≡ 41 → ⊥) → deed-part (look k bindings nothing) s down ≡ deed-part (look k bindings nothing) s (λ v. [])
 binds-alike k s down =
     look-all (λ n b. (n ≡ 41 → ⊥) → deed-part b s down ≡ deed-part b s (λ v. [])) k bindings nothing
     ((λ n. refl), ((λ n. absurd (n refl)), ((λ n. refl), ((λ n. refl), tt)))) (λ n. refl)
@@ -73,7 +73,7 @@ fewer l h = record { low = λ j k. l .low j (omega arith) }
 -- ---- the names of a role
 
 named-cons : (r : ℕ) (h : Head) (k s : Forest) → defined-names r (node h k s) ≡ named-one r h k ++ defined-names r s
-named-cons r h k s = go (eqb r (h .role)) (deed-part (bind-of h) (h .spot) (λ v. defined-names v k))
+named-cons r h k s = go (eqb r (h .role)) (deed-part (bind-of h) h (λ v. defined-names v k))
   where
     go : (b : Bool) (xs : List Deed) → listed b xs (defined-names r s) ≡ listed b xs [] ++ defined-names r s
     go true xs = rw append-nil
@@ -90,11 +90,11 @@ named-down : (h : Head) (k : Forest) → named-one 0 h k ≡ below-one h ++ pick
 named-down h k = go (eqb 0 (h .role)) (ℕ-discrete (h .kind) 41)
   where
     go : (b : Bool) → Dec (h .kind ≡ 41)
-        → listed b (deed-part (bind-of h) (h .spot) (λ v. defined-names v k)) []
-        ≡ listed b (deed-part (bind-of h) (h .spot) (λ v. [])) [] ++ pick (b && eqb 41 (h .kind)) (defined-names 0 k) []
+        → listed b (deed-part (bind-of h) h (λ v. defined-names v k)) []
+        ≡ listed b (deed-part (bind-of h) h (λ v. [])) [] ++ pick (b && eqb 41 (h .kind)) (defined-names 0 k) []
     go false d = refl
     go true (yes e) = rw (e, append-nil)
-    go true (no n) = rw (not-eqb n, append-nil, append-nil, append-nil) (binds-alike (h .kind) (h .spot) (λ v. defined-names v k) n)
+    go true (no n) = rw (not-eqb n, append-nil, append-nil, append-nil) (binds-alike (h .kind) h (λ v. defined-names v k) n)
 
 -- node j, and what stands where the walk goes on
 pub below-step : {t : List ℕ} {j e : ℕ} → Part t j e → j < e
@@ -126,16 +126,16 @@ module _ (t o : List ℕ) (d : Defined) (role j : ℕ) (f : Forest) where
   module _ (er : roleAt t j ≡ role) where
     pub role-none : (kindAt t j ≡ 41 → ⊥) → false ≡ bound (kindAt t j) → Does t o d (named-one role (headAt t j) f) o d
     unfolding headAt
-    role-none n b = rw (eq-eqb role (roleAt t j) (sym er), binds-none (kindAt t j) (spotAt t j) (λ v. defined-names v f) b n) (does-none t o d)
+    role-none n b = rw (eq-eqb role (roleAt t j) (sym er), binds-none (kindAt t j) (headAt t j) (λ v. defined-names v f) b n) (does-none t o d)
 
     module _ (o′ : List ℕ) (r : Defined) where
       pub role-several : kindAt t j ≡ 41 → Does t o d (defined-names 0 f) o′ r → Does t o d (named-one role (headAt t j) f) o′ r
       unfolding headAt
       role-several k w = rw (eq-eqb role (roleAt t j) (sym er), k, append-nil) w
 
-      pub role-one : true ≡ bound (kindAt t j) → Does t o d (defines (eqb (kindAt t j) 47) (spotAt t j) ∷ []) o′ r → Does t o d (named-one role (headAt t j) f) o′ r
+      pub role-one : true ≡ bound (kindAt t j) → Does t o d (defines (eqb (kindAt t j) 47) (headAt t j) ∷ []) o′ r → Does t o d (named-one role (headAt t j) f) o′ r
       unfolding headAt
-      role-one b w = rw (eq-eqb role (roleAt t j) (sym er), binds-one (kindAt t j) (spotAt t j) (λ v. defined-names v f) b) w
+      role-one b w = rw (eq-eqb role (roleAt t j) (sym er), binds-one (kindAt t j) (headAt t j) (λ v. defined-names v f) b) w
 
 module _ (t o : List ℕ) (d : Defined) (j : ℕ) where
   pub below-other : (roleAt t j ≡ 0 → ⊥) → Does t o d (below-one (headAt t j)) o d
@@ -144,12 +144,12 @@ module _ (t o : List ℕ) (d : Defined) (j : ℕ) where
 
   pub below-none : roleAt t j ≡ 0 → false ≡ bound (kindAt t j) → Does t o d (below-one (headAt t j)) o d
   unfolding headAt
-  below-none er b = rw (er, binds-below (kindAt t j) (spotAt t j) b) (does-none t o d)
+  below-none er b = rw (eq-eqb 0 (roleAt t j) (sym er), binds-below (kindAt t j) (headAt t j) b) (does-none t o d)
 
   pub below-name : (o′ : List ℕ) (r : Defined) → roleAt t j ≡ 0 → true ≡ bound (kindAt t j)
-      → Does t o d (defines (eqb (kindAt t j) 47) (spotAt t j) ∷ []) o′ r → Does t o d (below-one (headAt t j)) o′ r
+      → Does t o d (defines (eqb (kindAt t j) 47) (headAt t j) ∷ []) o′ r → Does t o d (below-one (headAt t j)) o′ r
   unfolding headAt
-  below-name o′ r er b w = rw (er, binds-one (kindAt t j) (spotAt t j) (λ v. []) b) w
+  below-name o′ r er b w = rw (eq-eqb 0 (roleAt t j) (sym er), binds-one (kindAt t j) (headAt t j) (λ v. []) b) w
 
 module _ (t : List ℕ) (j : ℕ) where
   pub several-yes : roleAt t j ≡ 0 → kindAt t j ≡ 41 → is-several (headAt t j) ≡ true
@@ -204,8 +204,8 @@ self-asks {t} {i} {e} {x} part le ex l f =
 
 module _ (t : List ℕ) (i e : ℕ) (o : List ℕ) (d : Defined) (o′ : List ℕ) (r : Defined) where
   pub assign-repeat : {x : ℕ} → Part t i e → i ≤ e → x ≡ childOf t 5 i e → true ≡ self-set (forestOf t i e)
-      → Does t o d (repeats (spotAt t x) ∷ []) o′ r → Does t o d (top-assign (forestOf t i e)) o′ r
-  assign-repeat {x} part le ex f w = rw (sym f, spot-is 5 part le ex (self-target part le ex refl f .0)) w
+      → Does t o d (repeats (headAt t x) ∷ []) o′ r → Does t o d (top-assign (forestOf t i e)) o′ r
+  assign-repeat {x} part le ex f w = rw (sym f, head-is 5 part le ex (self-target part le ex refl f .0)) w
 
   pub assign-named : false ≡ self-set (forestOf t i e) → Does t o d (defined-names 5 (forestOf t i e)) o′ r → Does t o d (top-assign (forestOf t i e)) o′ r
   assign-named f w = rw (sym f) w

@@ -14,7 +14,7 @@ use Rattle.tree.proofs.Search.{clash}
 use Rattle.incompatible.proofs.Checks.{and-false}
 use borrow.Author.Tests.{eq-eqb, ne-eqb}
 use Rattle.tree.specs.Bytes.{kindAt, sizeAt, valueAt}
-use Rattle.tree.specs.Forest.{Spot, spotAt}
+use Rattle.tree.specs.Forest.{Head, spotAt, headAt}
 use Rattle.rules.specs.Record.{Rec}
 use Rattle.rules.specs.Incompatible.{Deed, defines, repeats, First, first-of, times, defined, may-repeat, repeated, once, again}
 use Rattle.answer.specs.declared.Sheet.{Sheet}
@@ -28,25 +28,25 @@ use Rattle.incompatible.specs.Ledger.{Ledger, told-by, ledger-by, free-n
 abbrev ledger-of : List First → List ℕ → Ledger
 ledger-of ds xs = record { first = λ x. first-of x ds; spent = λ x. times x xs }
 
-defined-told : (o : Option First) (l : Bool) (s : Spot) (ds : List First) (xs : List ℕ) (on : List First → List Rec) (es : List Deed)
+defined-told : (o : Option First) (l : Bool) (s : Head) (ds : List First) (xs : List ℕ) (on : List First → List Rec) (es : List Deed)
     → ((v : List First) → on v ≡ tells es (ledger-of v xs))
     → defined o l s ds on ≡ told-by o s ++ tells es (ledger-by o l s (ledger-of ds xs))
-defined-told none l s ds xs on es f = f (record { spot = s; loaded = l } ∷ ds)
-defined-told (some d) l s ds xs on es f = ap (λ (r : List Rec). again (d .spot) s ∷ r) (f ds)
+defined-told none l s ds xs on es f = f (record { head = s; loaded = l } ∷ ds)
+defined-told (some d) l s ds xs on es f = ap (λ (r : List Rec). again (d .head) s ∷ r) (f ds)
 
 judge-told : (es : List Deed) (ds : List First) (xs : List ℕ) → repeated once es ds xs ≡ tells es (ledger-of ds xs)
 unfolding tells
 judge-told [] ds xs = refl
 judge-told (defines l s ∷ es) ds xs =
-    defined-told (first-of (s .value) ds) l s ds xs (λ v. repeated once es v xs) es (λ v. judge-told es v xs)
+    defined-told (first-of (s .spot .value) ds) l s ds xs (λ v. repeated once es v xs) es (λ v. judge-told es v xs)
 judge-told (repeats s ∷ es) ds xs =
-    go (may-repeat once (first-of (s .value) ds) (times (s .value) xs)) (judge-told es ds (s .value ∷ xs))
-    (defined-told (first-of (s .value) ds) false s ds xs (λ v. repeated once es v xs) es (λ v. judge-told es v xs))
+    go (may-repeat once (first-of (s .spot .value) ds) (times (s .spot .value) xs)) (judge-told es ds (s .spot .value ∷ xs))
+    (defined-told (first-of (s .spot .value) ds) false s ds xs (λ v. repeated once es v xs) es (λ v. judge-told es v xs))
   where
-    go : (b : Bool) → repeated once es ds (s .value ∷ xs) ≡ tells es (ledger-of ds (s .value ∷ xs))
-        → defined (first-of (s .value) ds) false s ds (λ v. repeated once es v xs) ≡ told-by (first-of (s .value) ds) s ++ tells es (ledger-by (first-of (s .value) ds) false s (ledger-of ds xs))
-        → elim b [ true ↦ repeated once es ds (s .value ∷ xs) | false ↦ defined (first-of (s .value) ds) false s ds (λ v. repeated once es v xs) ]
-        ≡ elim b [ true ↦ [] | false ↦ told-by (first-of (s .value) ds) s ] ++ tells es (elim b [ true ↦ spend (ledger-of ds xs) (s .value) | false ↦ ledger-by (first-of (s .value) ds) false s (ledger-of ds xs) ])
+    go : (b : Bool) → repeated once es ds (s .spot .value ∷ xs) ≡ tells es (ledger-of ds (s .spot .value ∷ xs))
+        → defined (first-of (s .spot .value) ds) false s ds (λ v. repeated once es v xs) ≡ told-by (first-of (s .spot .value) ds) s ++ tells es (ledger-by (first-of (s .spot .value) ds) false s (ledger-of ds xs))
+        → elim b [ true ↦ repeated once es ds (s .spot .value ∷ xs) | false ↦ defined (first-of (s .spot .value) ds) false s ds (λ v. repeated once es v xs) ]
+        ≡ elim b [ true ↦ [] | false ↦ told-by (first-of (s .spot .value) ds) s ] ++ tells es (elim b [ true ↦ spend (ledger-of ds xs) (s .spot .value) | false ↦ ledger-by (first-of (s .spot .value) ds) false s (ledger-of ds xs) ])
     go true f g = f
     go false f g = g
 
@@ -82,8 +82,8 @@ module _ (t o : List ℕ) (d : Defined) (i v : ℕ) (ev : v ≡ valueAt t i) whe
   -- a name that was not defined
   pub ident-new : (r : Defined) → v < length (d .first) → getD (d .first) v 0 ≡ 0
       → r .first ≡ set (d .first) v (i + 1) → r .exported ≡ d .exported → r .sheet ≡ d .sheet
-      → Does t o d (defines (eqb (kindAt t i) 47) (spotAt t i) ∷ []) o r
-  unfolding tells after spotAt
+      → Does t o d (defines (eqb (kindAt t i) 47) (headAt t i) ∷ []) o r
+  unfolding tells after headAt spotAt
   ident-new r h z a b c =
       let y : getD (d .first) (valueAt t i) 0 ≡ 0 = rw ev at z in
       record {
@@ -92,16 +92,16 @@ module _ (t o : List ℕ) (d : Defined) (i v : ℕ) (ev : v ≡ valueAt t i) whe
       }
     where
       go : (x : ℕ) (b : Bool) → first-by t (elim b [ true ↦ i + 1 | false ↦ getD (d .first) x 0 ])
-          ≡ elim b [ true ↦ some (record { spot = spotAt t i; loaded = eqb (kindAt t i) 47 }) | false ↦ first-by t (getD (d .first) x 0) ]
+          ≡ elim b [ true ↦ some (record { head = headAt t i; loaded = eqb (kindAt t i) 47 }) | false ↦ first-by t (getD (d .first) x 0) ]
       go x true = rw add-one
       go x false = refl
 
   -- a name that was
   pub ident-again : (old : ℕ) (o′ : List ℕ) (r : Defined) → old ≡ getD (d .first) v 0 → (old ≡ 0 → ⊥)
       → r .first ≡ d .first → r .exported ≡ d .exported
-      → page o′ (r .sheet) ≡ write (page o (d .sheet)) (again (spotAt t (old - 1)) (spotAt t i))
-      → Does t o d (defines (eqb (kindAt t i) 47) (spotAt t i) ∷ []) o′ r
-  unfolding tells after spotAt
+      → page o′ (r .sheet) ≡ write (page o (d .sheet)) (again (headAt t (old - 1)) (headAt t i))
+      → Does t o d (defines (eqb (kindAt t i) 47) (headAt t i) ∷ []) o′ r
+  unfolding tells after headAt spotAt
   ident-again old o′ r z n a b w =
       let y : getD (d .first) (valueAt t i) 0 ≡ suc (old - 1) = sym (rw ev at z) ∙ omega arith in
       record { wrote = rw y (w ∙ sym (writes-one (page o (d .sheet)) _)); then = rw (a, b, y) }
@@ -109,8 +109,8 @@ module _ (t o : List ℕ) (d : Defined) (i v : ℕ) (ev : v ≡ valueAt t i) whe
   -- x = x that is free
   pub repeat-free : (r : Defined) → v < length (d .exported) → true ≡ free-now (ledger t d) v
       → r .first ≡ d .first → r .exported ≡ set (d .exported) v true → r .sheet ≡ d .sheet
-      → Does t o d (repeats (spotAt t i) ∷ []) o r
-  unfolding tells after spotAt
+      → Does t o d (repeats (headAt t i) ∷ []) o r
+  unfolding tells after headAt spotAt
   repeat-free r h f a b c =
       let y : free-now (ledger t d) (valueAt t i) ≡ true = sym (rw ev at f) in
       record {
@@ -133,11 +133,12 @@ module _ (t o : List ℕ) (d : Defined) (i v : ℕ) (ev : v ≡ valueAt t i) whe
 
   -- x = x that is not
   pub repeat-not : (o′ : List ℕ) (r : Defined) → kindAt t i ≡ 40 → false ≡ free-now (ledger t d) v
-      → Does t o d (defines (eqb (kindAt t i) 47) (spotAt t i) ∷ []) o′ r → Does t o d (repeats (spotAt t i) ∷ []) o′ r
-  unfolding tells after spotAt
+      → Does t o d (defines (eqb (kindAt t i) 47) (headAt t i) ∷ []) o′ r → Does t o d (repeats (headAt t i) ∷ []) o′ r
+  unfolding tells after headAt spotAt
   repeat-not o′ r k f w =
       let y : free-now (ledger t d) (valueAt t i) ≡ false = sym (rw ev at f) in
-      record { wrote = rw (y, told) (w .wrote); then = rw (y, knows) (rw k at (w .then)) }
+      let z : eqb (kindAt t i) 47 ≡ false = rw k in
+      record { wrote = rw (y, told) (w .wrote); then = rw (y, knows) (rw z at (w .then)) }
 
 -- ---- whether x = x is free
 

@@ -7,7 +7,7 @@ use mathlib.Core.Bool.{Bool, true, false, _&&_, _||_}
 use lib.Dec.{eqb}
 use lib.ListN.{length, getD}
 use Rattle.tree.specs.Bytes.{nodeCount, valueCount, kindAt}
-use Rattle.tree.specs.Forest.{Spot, Head, Forest, none, node, forestOf, treeOf}
+use Rattle.tree.specs.Forest.{Head, Forest, none, node, forestOf, treeOf}
 use Rattle.tree.specs.Judge.{judged}
 use Rattle.tree.specs.code.Sound.{Sound}
 use Rattle.tree.specs.Table.{tableOf, spells}
@@ -17,8 +17,8 @@ use Rattle.tree.proofs.Fields.{Small, small-none, small-node, part-small}
 use Rattle.tree.proofs.Whole.{sound, whole, whole-part}
 use Rattle.tree.proofs.Entries.{names-fit, value-among-names}
 use Rattle.tree.proofs.ValidTable.{spells-number}
-use Rattle.rules.specs.Record.{Rec, listed, named-at, with-value}
-use Rattle.rules.specs.Visit.{spot-at, each, kind-at, under, how-many}
+use Rattle.rules.specs.Record.{Rec, listed, valued-at}
+use Rattle.rules.specs.Visit.{head-at, spot-at, each, kind-at, under, how-many}
 use Rattle.rules.specs.Incompatible.{identifier, type-check, check-at, deeds, repeated, once, incompatible, incompatible-list, type-name, five-types, spells-one}
 use Rattle.rules.proofs.Few.{incompatible-list-few}
 use Rattle.answer.proofs.Whole.{few-nodes}
@@ -30,7 +30,7 @@ place-small : (r : ℕ) (f : Forest) → Small f → spot-at r f .value < 65536
 place-small r none w = omega arith
 place-small r (node h k s) (small-node a u v) = go (eqb r (h .role)) (place-small r s v)
   where
-    go : (b : Bool) → spot-at r s .value < 65536 → (elim b as (λ x. Spot) [ true ↦ h .spot | false ↦ spot-at r s ]) .value < 65536
+    go : (b : Bool) → spot-at r s .value < 65536 → (elim b as (λ x. Head) [ true ↦ h | false ↦ head-at r s ]) .spot .value < 65536
     go true l = a
     go false l = l
 
@@ -49,7 +49,7 @@ identifier-same p q agree r f w = ap (λ (b : Bool). eqb 20 (kind-at r f) && b) 
 module _ (p q p′ q′ : ℕ → Bool) (call : (v : ℕ) → v < 65536 → p v ≡ q v) (name : (v : ℕ) → v < 65536 → p′ v ≡ q′ v) where
   check-same : (h : Head) (k : Forest) → Small k → check-at p p′ h k ≡ check-at q q′ h k
   check-same h k w =
-      ap₂ (λ (a b : Bool). listed ((eqb 31 (h .kind) || eqb 32 (h .kind)) && (eqb 23 (kind-at 1 k) && (a && (eqb 1 (how-many 0 (under 1 k)) && b)))) (named-at 14 (with-value (h .spot) (spot-at 2 k .value)) ∷ []) [])
+      ap₂ (λ (a b : Bool). listed ((eqb 31 (h .kind) || eqb 32 (h .kind)) && (eqb 23 (kind-at 1 k) && (a && (eqb 1 (how-many 0 (under 1 k)) && b)))) (valued-at 14 h (spot-at 2 k .value) ∷ []) [])
       (identifier-same p q call 7 (under 1 k) (under-small 1 k w)) (identifier-same p′ q′ name 2 k w)
 
   each-same : (f : Forest) → Small f → each (check-at p p′) f ≡ each (check-at q q′) f

@@ -8,7 +8,7 @@ use mathlib.Core.Bool.{Bool, true, false, cond, _&&_}
 use lib.Dec.{eqb}
 use lib.ListN.{getD}
 use Rattle.tree.specs.Bytes.{kindAt, sizeAt, pick}
-use Rattle.tree.specs.Forest.{Spot, Head, Forest, spotAt}
+use Rattle.tree.specs.Forest.{Head, Forest, headAt}
 use Rattle.rules.specs.Record.{Rec, listed}
 use Rattle.rules.specs.Visit.{look}
 use Rattle.rules.specs.Order.{bind-of}
@@ -23,12 +23,12 @@ pub record Ledger : Type 0 where
 
 -- ---- a deed: what it has told, and what is known after it
 
-abbrev pub told-by : Option First → Spot → List Rec
+abbrev pub told-by : Option First → Head → List Rec
 told-by none s = []
-told-by (some d) s = again (d .spot) s ∷ []
+told-by (some d) s = again (d .head) s ∷ []
 
-abbrev pub ledger-by : Option First → Bool → Spot → Ledger → Ledger
-ledger-by none l s k = record { first = λ x. elim (eqb x (s .value)) [ true ↦ some (record { spot = s; loaded = l }) | false ↦ k .first x ]; spent = k .spent }
+abbrev pub ledger-by : Option First → Bool → Head → Ledger → Ledger
+ledger-by none l s k = record { first = λ x. elim (eqb x (s .spot .value)) [ true ↦ some (record { head = s; loaded = l }) | false ↦ k .first x ]; spent = k .spent }
 ledger-by (some d) l s k = k
 
 abbrev pub free-now : Ledger → ℕ → Bool
@@ -38,12 +38,12 @@ abbrev pub spend : Ledger → ℕ → Ledger
 spend k v = record { first = k .first; spent = λ x. elim (eqb x v) [ true ↦ suc (k .spent x) | false ↦ k .spent x ] }
 
 abbrev pub told : Deed → Ledger → List Rec
-told (defines l s) k = told-by (k .first (s .value)) s
-told (repeats s) k = elim (free-now k (s .value)) [ true ↦ [] | false ↦ told-by (k .first (s .value)) s ]
+told (defines l s) k = told-by (k .first (s .spot .value)) s
+told (repeats s) k = elim (free-now k (s .spot .value)) [ true ↦ [] | false ↦ told-by (k .first (s .spot .value)) s ]
 
 abbrev pub knows : Deed → Ledger → Ledger
-knows (defines l s) k = ledger-by (k .first (s .value)) l s k
-knows (repeats s) k = elim (free-now k (s .value)) [ true ↦ spend k (s .value) | false ↦ ledger-by (k .first (s .value)) false s k ]
+knows (defines l s) k = ledger-by (k .first (s .spot .value)) l s k
+knows (repeats s) k = elim (free-now k (s .spot .value)) [ true ↦ spend k (s .spot .value) | false ↦ ledger-by (k .first (s .spot .value)) false s k ]
 
 -- deeds one after the other
 unfoldable pub tells : List Deed → Ledger → List Rec
@@ -58,7 +58,7 @@ after (e ∷ es) k = after es (knows e k)
 
 abbrev pub first-by : List ℕ → ℕ → Option First
 first-by t zero = none
-first-by t (suc i) = some (record { spot = spotAt t i; loaded = eqb (kindAt t i) 47 })
+first-by t (suc i) = some (record { head = headAt t i; loaded = eqb (kindAt t i) 47 })
 
 abbrev pub ledger : List ℕ → Defined → Ledger
 ledger t d =
@@ -70,7 +70,7 @@ ledger t d =
 -- ---- the deeds of one node
 
 abbrev pub named-one : ℕ → Head → Forest → List Deed
-named-one r h k = listed (eqb r (h .role)) (deed-part (bind-of h) (h .spot) (λ v. defined-names v k)) []
+named-one r h k = listed (eqb r (h .role)) (deed-part (bind-of h) h (λ v. defined-names v k)) []
 
 -- a list, if, if-else or for is gone into
 abbrev pub goes-in : Top → Bool
@@ -90,7 +90,7 @@ deeds-one h k = top-part (top-of (h .kind)) k []
 
 -- the deeds of one node below several: its members have role 0
 abbrev pub below-one : Head → List Deed
-below-one h = listed (eqb 0 (h .role)) (deed-part (bind-of h) (h .spot) (λ v. [])) []
+below-one h = listed (eqb 0 (h .role)) (deed-part (bind-of h) h (λ v. [])) []
 
 abbrev pub is-several : Head → Bool
 is-several h = eqb 0 (h .role) && eqb 41 (h .kind)

@@ -6,7 +6,7 @@ ghost use Prim.Native.Nat.{_+_, _≤_, _<_};
 ghost use lib.Dec.{eqb};
 ghost use lib.ListN.{getD, set, replicate};
 ghost use Rattle.tree.specs.Bytes.{kindAt, sizeAt, valueAt, pick};
-ghost use Rattle.tree.specs.Forest.{spotAt, headAt, forestOf};
+ghost use Rattle.tree.specs.Forest.{headAt, forestOf};
 ghost use Rattle.tree.specs.code.Part.{Part, Subtree};
 ghost use Rattle.rules.specs.Incompatible.{again, once, repeated, defined-names, deeds, self-set, repeats, defines};
 ghost use Rattle.answer.specs.Page.{write, writes, page};
@@ -79,7 +79,7 @@ fn export(d: Defined, v: usize) -> Defined
 }
 
 fn put_again(t: &[u8], old: usize, i: usize, out: &mut [u32], s: Sheet) -> Sheet
-    ensures { λ r. ⌜ page (now (out .exit)) r ≡ write (page (now (out .entry)) s) (again (spotAt (now (t .entry)) old) (spotAt (now (t .entry)) i)) ⌝ }
+    ensures { λ r. ⌜ page (now (out .exit)) r ≡ write (page (now (out .entry)) s) (again (headAt (now (t .entry)) old) (headAt (now (t .entry)) i)) ⌝ }
 {
     put(
         t,
@@ -98,7 +98,7 @@ fn put_again(t: &[u8], old: usize, i: usize, out: &mut [u32], s: Sheet) -> Sheet
 // The name at node i is defined, or defined again.
 fn ident(t: &[u8], i: usize, out: &mut [u32], d: Defined) -> Defined
     requires { ⌜ (valueAt (now t) i < 512) × (i < 1024) ⌝ }
-    ensures { λ r. ⌜ Does (now (t .entry)) (now (out .entry)) d (defines (eqb (kindAt (now (t .entry)) i) 47) (spotAt (now (t .entry)) i) ∷ []) (now (out .exit)) r ⌝ }
+    ensures { λ r. ⌜ Does (now (t .entry)) (now (out .entry)) d (defines (eqb (kindAt (now (t .entry)) i) 47) (headAt (now (t .entry)) i) ∷ []) (now (out .exit)) r ⌝ }
 {
     let v = value_at(t, i);
     let first = d.first;
@@ -243,7 +243,7 @@ fn is_self_set(t: &[u8], i: usize, e: usize) -> bool
 
 fn repeat(t: &[u8], x: usize, out: &mut [u32], d: Defined) -> Defined
     requires { ⌜ (valueAt (now t) x < 512) × (x < 1024) × (kindAt (now t) x ≡ 40) ⌝ }
-    ensures { λ r. ⌜ Does (now (t .entry)) (now (out .entry)) d (repeats (spotAt (now (t .entry)) x) ∷ []) (now (out .exit)) r ⌝ }
+    ensures { λ r. ⌜ Does (now (t .entry)) (now (out .entry)) d (repeats (headAt (now (t .entry)) x) ∷ []) (now (out .exit)) r ⌝ }
 {
     let v = value_at(t, x);
     if may_repeat(t, d, v) {

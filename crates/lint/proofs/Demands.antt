@@ -27,6 +27,9 @@ use Rattle.rules.specs.declared.Outcome.the-variants.{Listed}
 use Rattle.rules.specs.declared.Answer.{Answer}
 use Rattle.rules.proofs.Whole.{file-demand3, file-lint-few, file-tally}
 use Rattle.lint.proofs.lint.Reads as contract
+use Rattle.spans.specs.Fit.{Each}
+use Rattle.spans.specs.Placed.{Placed}
+use Rattle.spans.proofs.Whole.{file-placed}
 use Rattle.rules.proofs.Called.{one-outcome, warned-or-refused, lists, records-all, valid-where-listed, kept-in}
 
 -- What the contract of lint says, as the checker reads it (Post: of the arguments a, the result r and the lent words s afterwards):
@@ -70,6 +73,12 @@ module _ (mode : Mode) (t work room : List ℕ) (a : Answer) (room′ work′ : 
       rw (lint-records n i)
       (kept-in (file-demand3 t f v p) (λ r m. Memᴰ·append-left (flow-list t ++ rest) m)
       (λ r m. Memᴰ·append-right (names-list t) (Memᴰ·append-left rest m)))
+
+  -- 02, §4: the numbers of each record that the call leaves are nodes of the file that have its spans
+  pub lint-placed : (n : ℕ) → a .outcome ≡ Listed n → Each (Placed t) (records-in n room′)
+  lint-placed n i =
+      let v = valid-where-listed (lint-list mode t) t work room no-tally a room′ work′ gives n i in
+      rw (lint-records n i) (file-placed t (v .0) (v .1) mode)
 
   -- "two outcomes that satisfy it are proved equal"
   pub lint-one : (b : Answer) (room″ work″ : List ℕ) → Gives (lint-call mode t work room) b room″ work″

@@ -4,9 +4,9 @@ use Prim.Native.Nat.{ℕ, _+_, _*_, _-_, _≤_, _<_}
 use native.Mathlib.Omega.{arith}
 use mathlib.Core.Path.{_≡_, sym, ap, ap₂, _∙_}
 use mathlib.Core.Logic.{_⊎_, inl, inr}
-use mathlib.Core.List.{List, [], _++_, append-nil}
-use lib.ListN.{length, take, drop, length-append, length-drop, drop-of-length-le}
-use lib.Seq.{take-all, take-at, drop-at}
+use mathlib.Core.List.{List, _++_}
+use lib.ListN.{length, take, drop, length-append, length-drop}
+use lib.Seq.{take-at, drop-at}
 use borrow.Rule.Slice.PartMut.{putMid}
 use Rattle.tree.specs.declared.Facts.{Facts}
 use Rattle.tree.specs.declared.Mode.{Mode}
@@ -23,21 +23,8 @@ use Rattle.rules.proofs.Words.{length-words, room-two}
 use Rattle.rules.proofs.Tally.{raise-append}
 use Rattle.rules.proofs.Answered.{short-or-not, listed, filled, answer-same, done-short, done-listed}
 use Rattle.rules.proofs.Whole.{file-lint-few}
+use Rattle.answer.proofs.Lent.{tail-lent, tail-back}
 use Rattle.lint.specs.Links.{about, after-flow, after-names, Judged-valid, Fits}
-
--- ---- a part `&mut s[a..]`
-
-module _ (a : ℕ) (s : List ℕ) where
-  -- what the callee is lent
-  pub tail-lent : take (length s - a) (drop a s) ≡ drop a s
-  tail-lent = take-all (length s - a) (drop a s) (rw length-drop (omega arith))
-
-  -- the whole, once the callee left e there
-  tail-back : (e : List ℕ) → putMid a (length s - a) s e ≡ take a s ++ e
-  tail-back e =
-      let h : length (drop a s) ≤ length s - a = rw length-drop (omega arith) in
-      let z : drop (length s - a) (drop a s) ≡ [] = drop-of-length-le (drop a s) h in
-      rw (z, append-nil)
 
 -- ---- an answer of a valid file
 

@@ -107,6 +107,8 @@ duplicate n =
       spot = record { begin = 1; end = 2; value = 0 };
       second = record { begin = 6; end = 9 };
       third = record { begin = n; end = 0 };
+      number = 1;
+      number2 = 3;
     }
 
 abbrev shows-as : ℕ → Value → String → Type 0

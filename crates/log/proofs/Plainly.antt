@@ -130,6 +130,6 @@ no-third c d = look-none c thirds "" (both (not (eqb c 7)) true (apart c 7 d) tt
 
 -- 02, §11: what stands in the third span of code 16 is no place
 pub reason-no-place : (r : Rec) (s : Span) → r .code ≡ 16
-    → related (record { code = r .code; spot = r .spot; second = r .second; third = s }) ≡ related r
+    → related (record { code = r .code; spot = r .spot; second = r .second; third = s; number = r .number; number2 = r .number2 }) ≡ related r
 unfolding related other
 reason-no-place r s e = rw e

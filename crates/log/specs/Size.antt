@@ -7,7 +7,7 @@ use Rattle.rules.specs.Record.{Rec, words}
 use Rattle.spans.specs.Fit.{Each}
 use Rattle.rules.specs.Joined.{codes}
 
--- "eight u32", and a value of "Length at most 255"
+-- words of 32 bits, "eight u32" and 02's "two numbers after its present eight", and a value of "Length at most 255"
 pub record Bounded (t : List ℕ) (r : Rec) : Type 0 where
   pub a-code : r .code ≤ codes
   pub each-u32 : Each (λ w. w < 4294967296) (words r)

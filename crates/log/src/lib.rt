@@ -313,6 +313,8 @@ fn record_at(list: &[u32], k: usize) -> Words
         end2: list[a + 5],
         begin3: list[a + 6],
         end3: list[a + 7],
+        number: list[a + 8],
+        number2: list[a + 9],
     }
 }
 

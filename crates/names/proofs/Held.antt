@@ -4,6 +4,7 @@ use native.Mathlib.Omega.{arith}
 use mathlib.Core.Path.{_≡_}
 use mathlib.Core.List.{List, [], _∷_}
 use lib.ListN.{length}
+use Rattle.tree.specs.Forest.{headAt}
 use Rattle.rules.specs.code.Marks.{House}
 use Rattle.scope.specs.State.{baseIn, roomOf, roomsOf, outOf, houseOf, Fits, Kept}
 use Rattle.scope.specs.Words.{enterScope, closedOf}
@@ -46,6 +47,7 @@ unfolding houseOf
 closes t w s f few = closed-warns t w s f .list few
 
 pub methods : (t : List ℕ) → Methods t
+unfolding headAt
 methods t =
     record {
       set = λ d w s i f h. record { does = weaker (λ m p. p .1) (set-does t w s i f) };

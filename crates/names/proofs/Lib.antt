@@ -8,4 +8,5 @@ pub mod Starts
 pub mod Fails
 pub mod Whole
 pub mod Telling
+pub mod FirstMet
 pub mod Promised

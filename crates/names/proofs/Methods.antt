@@ -5,7 +5,7 @@ use mathlib.Core.Bool.{true}
 use mathlib.Core.List.{List, [], _∷_}
 use lib.ListN.{length, getD}
 use Rattle.tree.specs.Bytes.{kindAt}
-use Rattle.tree.specs.Forest.{spotAt}
+use Rattle.tree.specs.Forest.{headAt}
 use Rattle.tree.specs.Table.{tableOf, underscored, globalsOf}
 use Rattle.rules.specs.Order.{use-of, set-of}
 use Rattle.rules.specs.code.Marks.{House, leave-house, mid, farewell-room, undefined-room}
@@ -23,9 +23,9 @@ closing t m = undefined-room (globalsOf t) (m .here) (farewell-room (underscored
 
 pub record Methods (t : List ℕ) : Type 0 where
   pub set : (d : ℕ) (w : List ℕ) (s : Scope) (i : ℕ) → Fits w s → i < 1024
-      → Goes t d (set-of (sortOf (kindAt t i)) (spotAt t i)) w s (addedWords t w s i) (setScope t w s i)
+      → Goes t d (set-of (sortOf (kindAt t i)) (headAt t i)) w s (addedWords t w s i) (setScope t w s i)
   pub used : (d : ℕ) (w : List ℕ) (s : Scope) (i : ℕ) → Fits w s → i < 1024
-      → Goes t d (use-of (spotAt t i)) w s (usedWords t w s i) (usedScope t w s i)
+      → Goes t d (use-of (headAt t i)) w s (usedWords t w s i) (usedScope t w s i)
   pub back : {w v : List ℕ} {s one : Scope} → Fits w s → Fits v one → Kept w s v one → (outer : List Scope)
       → houseOf t v (backScope s one) outer ≡ mid (houseOf t w s outer) (houseOf t v one outer)
   pub join-fits : {x : List ℕ} (one two : Scope) → Fits x two → Fits x (joinScope one two)

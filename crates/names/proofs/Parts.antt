@@ -9,7 +9,7 @@ use mathlib.Core.List.{List, [], _∷_}
 use lib.Dec.{eqb}
 use borrow.Author.Tests.{ne-eqb}
 use Rattle.tree.specs.Bytes.{pick, kindAt, roleAt, sizeAt}
-use Rattle.tree.specs.Forest.{spotAt, headAt, forestOf}
+use Rattle.tree.specs.Forest.{headAt, forestOf}
 use Rattle.tree.specs.code.Part.{Part}
 use Rattle.tree.specs.code.Find.{childOf, kidOf}
 use Rattle.tree.proofs.Laws.{forest-none, forest-node, kids, first, sized, later}
@@ -128,18 +128,18 @@ module _ (t : List ℕ) (c : ℕ) where
 
   -- of kind k, which binds a name of sort o
   name-one : (u : Bool) (k : ℕ) (o : Sort) → look k bindings Bind.nothing ≡ Bind.one o → sortOf k ≡ o → kindAt t c ≡ k
-      → nameNode u t c ≡ pick u (use-of (spotAt t c)) (set-of (sortOf (kindAt t c)) (spotAt t c))
+      → nameNode u t c ≡ pick u (use-of (headAt t c)) (set-of (sortOf (kindAt t c)) (headAt t c))
   unfolding headAt
   name-one u k o e h q =
       name-kind u k q
       ∙ ap (λ (z : Bind). pick u (use-part z (headAt t c) (λ v. useOf t v c)) (bind-part z (headAt t c) (λ v. bindOf t v c))) e
-      ∙ ap (λ (z : Sort). pick u (use-of (spotAt t c)) (set-of z (spotAt t c))) (sym (ap sortOf q ∙ h))
+      ∙ ap (λ (z : Sort). pick u (use-of (headAt t c)) (set-of z (headAt t c))) (sym (ap sortOf q ∙ h))
 
-  pub name-name : (u : Bool) → namesOf (kindAt t c) ≡ true → nameNode u t c ≡ pick u (use-of (spotAt t c)) (set-of (sortOf (kindAt t c)) (spotAt t c))
+  pub name-name : (u : Bool) → namesOf (kindAt t c) ≡ true → nameNode u t c ≡ pick u (use-of (headAt t c)) (set-of (sortOf (kindAt t c)) (headAt t c))
   unfolding sortOf
   name-name u h = go (ℕ-discrete (kindAt t c) 40) (ℕ-discrete (kindAt t c) 43) (ℕ-discrete (kindAt t c) 47)
     where
-      go : Dec (kindAt t c ≡ 40) → Dec (kindAt t c ≡ 43) → Dec (kindAt t c ≡ 47) → nameNode u t c ≡ pick u (use-of (spotAt t c)) (set-of (sortOf (kindAt t c)) (spotAt t c))
+      go : Dec (kindAt t c ≡ 40) → Dec (kindAt t c ≡ 43) → Dec (kindAt t c ≡ 47) → nameNode u t c ≡ pick u (use-of (headAt t c)) (set-of (sortOf (kindAt t c)) (headAt t c))
       go (yes q) y z = name-one u 40 Sort.assign refl refl q
       go (no x) (yes q) z = name-one u 43 Sort.argument refl refl q
       go (no x) (no y) (yes q) = name-one u 47 Sort.load refl refl q
@@ -173,7 +173,7 @@ module _ (t : List ℕ) (f c : ℕ) where
   pub node-continue : kindAt t c ≡ 2 → nodeOf t f c ≡ stop (breaks (broken-by (headAt t c)))
   node-continue q = kind-form 2 q
 
-  pub node-return : kindAt t c ≡ 4 → nodeOf t f c ≡ (downOf t f (wantOf 4) c ⨟ stop (cond (has 4 (kidsOf t c)) valued (bare (headAt t c .spot))))
+  pub node-return : kindAt t c ≡ 4 → nodeOf t f c ≡ (downOf t f (wantOf 4) c ⨟ stop (cond (has 4 (kidsOf t c)) valued (bare (headAt t c))))
   unfolding wantOf
   node-return q = kind-form 4 q
 
@@ -215,7 +215,7 @@ module _ (t : List ℕ) (f c : ℕ) where
   unfolding bindOf
   node-load q = kind-form 13 q
 
-  pub node-identifier : kindAt t c ≡ 20 → nodeOf t f c ≡ use-of (spotAt t c)
+  pub node-identifier : kindAt t c ≡ 20 → nodeOf t f c ≡ use-of (headAt t c)
   unfolding headAt
   node-identifier q = kind-form 20 q
 

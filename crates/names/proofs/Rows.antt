@@ -8,7 +8,7 @@ use mathlib.Core.List.{List}
 use lib.Dec.{eqb}
 use borrow.Author.Tests.{ne-eqb, le-leb, lt-leb}
 use Rattle.tree.specs.Bytes.{pick, kindAt, roleAt, sizeAt}
-use Rattle.tree.specs.Forest.{Spot, headAt, forestOf}
+use Rattle.tree.specs.Forest.{Head, headAt, forestOf}
 use Rattle.tree.specs.code.Part.{Part}
 use Rattle.tree.specs.code.Find.{childOf, kidOf}
 use Rattle.tree.proofs.Laws.{later}
@@ -97,7 +97,7 @@ pick-true y e a b g = rw e g
 pub pick-false : {t : List ℕ} {d : ℕ} (y : Bool) → y ≡ false → (a b : Cmd) {w v : List ℕ} {s r : Scope} → Goes t d b w s v r → Goes t d (pick y a b) w s v r
 pick-false y e a b g = rw e g
 
-pub return-abort : (b : Bool) (x : Spot) → abortOf Function ≡ abort-of (cond b valued (bare x))
+pub return-abort : (b : Bool) (x : Head) → abortOf Function ≡ abort-of (cond b valued (bare x))
 return-abort true x = refl
 return-abort false x = refl
 
@@ -134,7 +134,7 @@ pub return-node : (t : List ℕ) (f c : ℕ) → kindAt t c ≡ 4 → {d : ℕ} 
     → Goes t d (nodeOf t f c) w s v r
 return-node t f c k g e =
     goes-as (node-return t f c k)
-    (then g (stop-to (cond (has 4 (kidsOf t c)) valued (bare (headAt t c .spot))) Function (return-abort (has 4 (kidsOf t c)) (headAt t c .spot)) e (g .does .fits)))
+    (then g (stop-to (cond (has 4 (kidsOf t c)) valued (bare (headAt t c))) Function (return-abort (has 4 (kidsOf t c)) (headAt t c)) e (g .does .fits)))
 
 -- the tests, as the code takes them
 pub names-first : {k : ℕ} → k ≡ 40 → true ≡ namesOf k

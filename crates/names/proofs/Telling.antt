@@ -2,7 +2,7 @@
 use Prim.Native.Nat.{ℕ, zero, suc, _+_, _/_, _≤_, _<_}
 use native.Mathlib.Omega.{arith}
 use mathlib.Core.Path.{_≡_, refl, sym, ap, _∙_}
-use mathlib.Core.List.{List, [], _∷_, _++_, map}
+use mathlib.Core.List.{List, [], _∷_, _++_}
 use lib.ListN.{length, set, take, drop, replicate}
 use lib.Seq.{length-take-le}
 use Rattle.tree.specs.Judge.{judged}
@@ -12,7 +12,6 @@ use Rattle.rules.specs.declared.Outcome.the-variants.{Listed, Refused}
 use Rattle.rules.specs.declared.Refusal.the-variants.{WorkRoom, AnswerRoom}
 use Rattle.rules.specs.declared.Answer.{Answer}
 use Rattle.rules.specs.Record.{Rec, width}
-use Rattle.rules.specs.Names.{Warning, told}
 use Rattle.rules.specs.Joined.{no-tally}
 use Rattle.rules.specs.Outcome.{work-words, cleared}
 use Rattle.rules.specs.Calls.{done-with-work}
@@ -23,39 +22,26 @@ use Rattle.answer.specs.Page.{Page, write, writes, page}
 use Rattle.answer.proofs.Laws.{writes-append, writes-one}
 use Rattle.answer.proofs.Whole.{counted, short-done, listed-done}
 use Rattle.names.specs.Answers.{Answers}
-use Rattle.scope.specs.Lists.{places}
-use Rattle.scope.specs.State.{warningIn, outOf}
+use Rattle.names.specs.Records.{recordIn, recordsOf}
 use Rattle.scope.proofs.Lists.{places-none, places-last, places-length}
 
--- the records of the first n warnings in the words w
-abbrev pub recordsOf : List ℕ → List ℕ → ℕ → List Rec
-recordsOf t w n = map told (outOf t w n)
-
-map-append : (xs ys : List Warning) → map told (xs ++ ys) ≡ map told xs ++ map told ys
-map-append [] ys = refl
-map-append (x ∷ xs) ys = ap (λ (l : List Rec). told x ∷ l) (map-append xs ys)
-
-map-length : (xs : List Warning) → length (map told xs) ≡ length xs
-map-length [] = refl
-map-length (x ∷ xs) = ap suc (map-length xs)
-
 pub records-none : (t w : List ℕ) → recordsOf t w 0 ≡ []
-unfolding outOf
-records-none t w = ap (map told) (places-none (warningIn t w) 0 0 (omega arith))
+unfolding recordsOf
+records-none t w = places-none (recordIn t w) 0 0 (omega arith)
 
 pub records-length : (t w : List ℕ) (n : ℕ) → length (recordsOf t w n) ≡ n
-unfolding outOf
-records-length t w n = map-length (places (warningIn t w) 0 n) ∙ places-length (warningIn t w) 0 n ∙ omega arith
+unfolding recordsOf
+records-length t w n = places-length (recordIn t w) 0 n ∙ omega arith
 
-pub records-next : (t w : List ℕ) (k : ℕ) (p : Page) {q r : Page} → q ≡ writes p (recordsOf t w k) → r ≡ write q (told (warningIn t w k))
+pub records-next : (t w : List ℕ) (k : ℕ) (p : Page) {q r : Page} → q ≡ writes p (recordsOf t w k) → r ≡ write q (recordIn t w k)
     → r ≡ writes p (recordsOf t w (k + 1))
-unfolding outOf
+unfolding recordsOf
 records-next t w k p {q} {r} a b =
     b
-    ∙ ap (λ (z : Page). write z (told (warningIn t w k))) a
-    ∙ sym (writes-one (writes p (recordsOf t w k)) (told (warningIn t w k)))
-    ∙ sym (writes-append p (recordsOf t w k) (told (warningIn t w k) ∷ []))
-    ∙ ap (writes p) (sym (ap (map told) (places-last (warningIn t w) 0 k (omega arith)) ∙ map-append (places (warningIn t w) 0 k) (warningIn t w k ∷ [])))
+    ∙ ap (λ (z : Page). write z (recordIn t w k)) a
+    ∙ sym (writes-one (writes p (recordsOf t w k)) (recordIn t w k))
+    ∙ sym (writes-append p (recordsOf t w k) (recordIn t w k ∷ []))
+    ∙ ap (writes p) (sym (places-last (recordIn t w) 0 k (omega arith)))
 
 -- ---- what n warnings answer
 

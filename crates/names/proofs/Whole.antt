@@ -15,7 +15,7 @@ use Rattle.tree.proofs.Whole.{sound, whole}
 use Rattle.tree.proofs.ValidTable.{spells-number}
 use Rattle.tree.proofs.Fields.{value-low}
 use Rattle.rules.specs.Order.{body, fail-name, of-role, takes}
-use Rattle.rules.specs.Names.{names-list, told}
+use Rattle.rules.specs.Names.{met, told, met-in, names-list}
 use Rattle.rules.specs.code.Marks.{House, start, names-tour, nodes}
 use Rattle.rules.proofs.Marked.{tour-names}
 use Rattle.rules.proofs.Bounds.{every-map}
@@ -48,6 +48,6 @@ module _ (t : List ℕ) (f : Facts) (v : judged t ≡ Valid f) (bytes : (k : ℕ
             (omega (arith, nodes-few, names-few (underscored (tableOf t)) (spells (tableOf t) fail-name) (treeOf t) (globalsOf t)));
       }
 
-  pub file-names : map told (names-tour (underscored (tableOf t)) (globalsOf t) (moduleOf t (f .nodes))) ≡ names-list t
-  unfolding names-list
-  file-names = rw same-tree (ap (map told) (tour-names (underscored (tableOf t)) (globalsOf t) (body (spells (tableOf t) fail-name) (treeOf t))))
+  pub file-names : map (told (met (moduleOf t (f .nodes)))) (names-tour (underscored (tableOf t)) (globalsOf t) (moduleOf t (f .nodes))) ≡ names-list t
+  unfolding met-in names-list
+  file-names = rw same-tree (ap (map (told (met-in t))) (tour-names (underscored (tableOf t)) (globalsOf t) (body (spells (tableOf t) fail-name) (treeOf t))))

@@ -6,20 +6,23 @@ ghost use Prim.Native.Nat.{_≤_, _<_};
 ghost use lib.ListN.{length, replicate};
 ghost use Rattle.tree.specs.Judge.{judged};
 ghost use Rattle.tree.specs.declared.Judged.the-variants.{Valid};
+ghost use Rattle.tree.specs.code.Part.{Part};
 ghost use Rattle.tree.specs.Table.{tableOf, underscored, globalsOf};
-ghost use Rattle.rules.specs.Names.{told};
+ghost use Rattle.rules.specs.Names.{met, told};
 ghost use Rattle.rules.specs.code.Marks.{names-tour};
 ghost use Rattle.rules.specs.Outcome.{work-words};
 ghost use Rattle.rules.specs.Calls.{names-call};
 ghost use Rattle.answer.specs.Page.{write, writes, page};
 ghost use Rattle.names.specs.Answers.{Answers};
-ghost use Rattle.scope.specs.State.{outOf, warningIn};
+ghost use Rattle.names.specs.Records.{recordIn, recordsOf, metWords};
+ghost use Rattle.scope.specs.State.{outOf};
 ghost use Rattle.names.specs.Walk.{moduleOf, Ready};
 use answer::Note;
 use answer::Place;
 use answer::Sheet;
 use answer::put;
 use answer::started;
+use meeting::first_met;
 use rules::Answer;
 use rules::CODES;
 use rules::Refusal;
@@ -46,10 +49,20 @@ fn walked(t: &[u8], n: usize, w: &mut [u16]) -> usize
     s.closed(t, w)
 }
 
+// Each of the r warned nodes becomes the first of its span and name that the walk of n nodes meets.
+fn met(t: &[u8], n: usize, w: &mut [u16], r: usize)
+    requires { ⌜ Part (now t) 0 n × (r ≤ 1024) × (work-words ≤ length (now w)) ⌝ }
+    ensures { λ _. ⌜ now (w .exit) ≡ metWords (now (t .entry)) n (now (w .entry)) r ⌝ }
+{
+    if 0 < r {
+        first_met(t, n, &mut w[WARN..], r);
+    }
+}
+
 // The record of the k-th warning: its value is the name.
 fn told(t: &[u8], w: &[u16], k: usize, out: &mut [u32], s: Sheet) -> Sheet
     requires { ⌜ k < 1024 ⌝ }
-    ensures { λ r. ⌜ page (now (out .exit)) r ≡ write (page (now (out .entry)) s) (told (warningIn (now (t .entry)) (now (w .entry)) k)) ⌝ }
+    ensures { λ r. ⌜ page (now (out .exit)) r ≡ write (page (now (out .entry)) s) (recordIn (now (t .entry)) (now (w .entry)) k) ⌝ }
 {
     let at = word_at(w, WARN + k);
     let code = word_at(w, CODE + k);
@@ -70,7 +83,7 @@ fn told(t: &[u8], w: &[u16], k: usize, out: &mut [u32], s: Sheet) -> Sheet
 // The records of the first n warnings.
 fn records(t: &[u8], w: &[u16], n: usize, out: &mut [u32], s: Sheet) -> Sheet
     requires { ⌜ n ≤ 1024 ⌝ }
-    ensures { λ r. ⌜ page (now (out .exit)) r ≡ writes (page (now (out .entry)) s) (map told (outOf (now (t .entry)) (now (w .entry)) n)) ⌝ }
+    ensures { λ r. ⌜ page (now (out .exit)) r ≡ writes (page (now (out .entry)) s) (recordsOf (now (t .entry)) (now (w .entry)) n) ⌝ }
 {
     let mut r = s;
     let mut k = 0;
@@ -84,7 +97,7 @@ fn records(t: &[u8], w: &[u16], n: usize, out: &mut [u32], s: Sheet) -> Sheet
 // What n warnings answer: their records, where there is room for all.
 fn answer_of(t: &[u8], w: &[u16], n: usize, out: &mut [u32], tally: [usize; CODES]) -> Answer
     requires { ⌜ n ≤ 1024 ⌝ }
-    ensures { λ r. ⌜ Answers (map told (outOf (now (t .entry)) (now (w .entry)) n)) (now (out .entry)) tally r (now (out .exit)) ⌝ }
+    ensures { λ r. ⌜ Answers (recordsOf (now (t .entry)) (now (w .entry)) n) (now (out .entry)) tally r (now (out .exit)) ⌝ }
 {
     if out.len() / WIDTH < n {
         return answer::refused(Refusal::AnswerRoom(n));
@@ -105,9 +118,10 @@ fn clear(w: &mut [u16])
 // The pass over the n nodes of a valid file, its work room left zero.
 fn lint(t: &[u8], n: usize, w: &mut [u16], out: &mut [u32], tally: [usize; CODES]) -> Answer
     requires { ⌜ Ready (now t) n × (work-words ≤ length (now w)) ⌝ }
-    ensures { λ r. ⌜ Answers (map told (names-tour (underscored (tableOf (now (t .entry)))) (globalsOf (now (t .entry))) (moduleOf (now (t .entry)) n))) (now (out .entry)) tally r (now (out .exit)) × (now (w .exit) ≡ replicate (length (now (w .entry))) 0) ⌝ }
+    ensures { λ r. ⌜ Answers (map (told (met (moduleOf (now (t .entry)) n))) (names-tour (underscored (tableOf (now (t .entry)))) (globalsOf (now (t .entry))) (moduleOf (now (t .entry)) n))) (now (out .entry)) tally r (now (out .exit)) × (now (w .exit) ≡ replicate (length (now (w .entry))) 0) ⌝ }
 {
     let r = walked(t, n, w);
+    met(t, n, w, r);
     let a = answer_of(t, w, r, out, tally);
     clear(w);
     a

@@ -4,7 +4,7 @@ ghost use mathlib.Core.Path.{_≡_};
 ghost use Prim.Native.Nat.{ℕ, _+_, _<_, _≤_};
 ghost use lib.Dec.{eqb};
 ghost use Rattle.tree.specs.Bytes.{pick, kindAt, roleAt, sizeAt};
-ghost use Rattle.tree.specs.Forest.{spotAt};
+ghost use Rattle.tree.specs.Forest.{headAt};
 ghost use Rattle.tree.specs.code.Part.{Part};
 ghost use Rattle.tree.specs.code.Find.{kidOf};
 ghost use Rattle.rules.specs.Order.{_⨟_, skip, use-of, set-of, branch, scope};
@@ -395,7 +395,7 @@ fn bind_one(t: &[u8], i: usize, r: usize, uses: bool, w: &mut [u16], s: Scope) -
 // The name of node i: used where `uses`, else set.
 fn ident(t: &[u8], i: usize, uses: bool, w: &mut [u16], s: Scope) -> Scope
     requires { ⌜ Node (now t) i 0 × Fits (now w) s ⌝ }
-    ensures { λ z. ⌜ ((d : ℕ) → Goes (now (t .entry)) d (pick uses (use-of (spotAt (now (t .entry)) i)) (set-of (sortOf (kindAt (now (t .entry)) i)) (spotAt (now (t .entry)) i))) (now (w .entry)) s (now (w .exit)) z) ⌝ }
+    ensures { λ z. ⌜ ((d : ℕ) → Goes (now (t .entry)) d (pick uses (use-of (headAt (now (t .entry)) i)) (set-of (sortOf (kindAt (now (t .entry)) i)) (headAt (now (t .entry)) i))) (now (w .entry)) s (now (w .exit)) z) ⌝ }
 {
     if uses {
         return s.used(t, w, i);

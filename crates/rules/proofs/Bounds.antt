@@ -180,8 +180,8 @@ module _ (u : ℕ → Bool) where
   pub tour-keeps : (c : Cmd) (d : ℕ) → Keeps (tour u d c)
   tour-keeps skip d m = kept-refl (m .above)
   tour-keeps (a ⨟ b) d m = kept-trans (tour-keeps a d m) (tour-keeps b d (tour u d a m))
-  tour-keeps (use-of s) d m = level-keeps s m (level-at (s .value) (m .here .entries))
-  tour-keeps (set-of o s) d m = kept-refl (m .above)
+  tour-keeps (use-of a) d m = level-keeps (a .spot) m (level-at (a .spot .value) (m .here .entries))
+  tour-keeps (set-of o a) d m = kept-refl (m .above)
   tour-keeps (stop w) d m = kept-refl (m .above)
   tour-keeps (branch a b) d m = branch-keeps (tour u d a) (tour u d b) (tour-keeps a d) (tour-keeps b d) m
   tour-keeps (loop c) d m = rounds-keeps (leb (suc d) 5) (tour u (suc d) c) (tour-keeps c (suc d)) m
@@ -201,8 +201,8 @@ module _ (u : ℕ → Bool) (P Q : House → Type 0) where
   pub every-both : (c : Cmd) (d : ℕ) (m : House) → Every u P d c m → Every u Q d c m → Every u (λ x. P x × Q x) d c m
   every-both skip d m p q = (p, q)
   every-both (a ⨟ b) d m p q = (every-both a d m (p .0) (q .0), every-both b d (tour u d a m) (p .1) (q .1))
-  every-both (use-of s) d m p q = ((p .0, q .0), (p .1, q .1))
-  every-both (set-of o s) d m p q = ((p .0, q .0), (p .1, q .1))
+  every-both (use-of a) d m p q = ((p .0, q .0), (p .1, q .1))
+  every-both (set-of o a) d m p q = ((p .0, q .0), (p .1, q .1))
   every-both (stop w) d m p q = ((p .0, q .0), (p .1, q .1))
   every-both (branch a b) d m p q = (every-both a d m (p .0) (q .0), every-both b d (mid m (tour u d a m)) (p .1) (q .1), (p .2, q .2))
   every-both (loop c) d m p q = pair-rounds (leb (suc d) 5) (Every u P (suc d) c) (Every u Q (suc d) c)
@@ -227,8 +227,8 @@ module _ (u : ℕ → Bool) (P Q : House → Type 0) (to : (m : House) → P m �
   pub every-map : (c : Cmd) (d : ℕ) (m : House) → Every u P d c m → Every u Q d c m
   every-map skip d m p = to m p
   every-map (a ⨟ b) d m p = (every-map a d m (p .0), every-map b d (tour u d a m) (p .1))
-  every-map (use-of s) d m p = (to m (p .0), to (tour u d (use-of s) m) (p .1))
-  every-map (set-of o s) d m p = (to m (p .0), to (tour u d (set-of o s) m) (p .1))
+  every-map (use-of a) d m p = (to m (p .0), to (tour u d (use-of a) m) (p .1))
+  every-map (set-of o a) d m p = (to m (p .0), to (tour u d (set-of o a) m) (p .1))
   every-map (stop w) d m p = (to m (p .0), to (tour u d (stop w) m) (p .1))
   every-map (branch a b) d m p =
       (every-map a d m (p .0), every-map b d (mid m (tour u d a m)) (p .1), to (tour u d (branch a b) m) (p .2))
@@ -240,8 +240,8 @@ module _ (u : ℕ → Bool) (P Q : House → Type 0) (to : (m : House) → P m �
 abbrev pub gather : {K : Type 0} → (Spot → List K) → (Sort → Spot → List K) → (List K → List K) → Cmd → List K
 gather f g h skip = []
 gather f g h (a ⨟ b) = gather f g h a ++ gather f g h b
-gather f g h (use-of s) = f s
-gather f g h (set-of o s) = g o s
+gather f g h (use-of a) = f (a .spot)
+gather f g h (set-of o a) = g o (a .spot)
 gather f g h (stop w) = []
 gather f g h (branch a b) = gather f g h a ++ gather f g h b
 gather f g h (loop c) = gather f g h c
@@ -286,8 +286,8 @@ module _ {K : Type 0} (eq : K → K → Bool) (f : Spot → List K) (g : Sort �
   abbrev pub deep : Cmd → ℕ
   deep skip = 0
   deep (a ⨟ b) = max (deep a) (deep b)
-  deep (use-of s) = 0
-  deep (set-of o s) = 0
+  deep (use-of a) = 0
+  deep (set-of o a) = 0
   deep (stop w) = 0
   deep (branch a b) = max (deep a) (deep b)
   deep (loop c) = deep c
@@ -297,8 +297,8 @@ module _ {K : Type 0} (eq : K → K → Bool) (f : Spot → List K) (g : Sort �
   abbrev pub way : ℕ → Cmd → ℕ
   way d skip = 0
   way d (a ⨟ b) = max (way d a) (most a + way d b)
-  way d (use-of s) = most (use-of s)
-  way d (set-of o s) = most (set-of o s)
+  way d (use-of a) = most (use-of a)
+  way d (set-of o a) = most (set-of o a)
   way d (stop w) = 0
   way d (branch a b) = max (way d a) (max (most a + way d b) (most (branch a b)))
   way d (loop c) = again (leb (suc d) 5) (most c) (max (way (suc d) c) (most c))
@@ -350,9 +350,9 @@ module _ {K : Type 0} (eq : K → K → Bool) (sound : (a b : K) → T (eq a b) 
       tour-good skip d k s m i = i
       tour-good (a ⨟ b) d k s m i = tour-good b d k (sub-right eq (gather f g h a) (gather f g h b) k s) (tour u d a m)
           (tour-good a d k (sub-left eq (gather f g h a) (gather f g h b) k s) m i)
-      tour-good (use-of t) d k s m i = good-step k (f t) (list (m .here)) (list (tour u d (use-of t) m .here)) s
-          (w .used t m (level-at (t .value) (m .here .entries))) i
-      tour-good (set-of o t) d k s m i = good-step k (g o t) (list (m .here)) (list (set-room o t (m .here))) s (w .set o t (m .here)) i
+      tour-good (use-of a) d k s m i = good-step k (f (a .spot)) (list (m .here)) (list (tour u d (use-of a) m .here)) s
+          (w .used (a .spot) m (level-at (a .spot .value) (m .here .entries))) i
+      tour-good (set-of o a) d k s m i = good-step k (g o (a .spot)) (list (m .here)) (list (set-room o (a .spot) (m .here))) s (w .set o (a .spot) (m .here)) i
       tour-good (stop y) d k s m i = good-to eq (w .stop-law (abort-of y) (m .here)) i
       tour-good (branch a b) d k s m i = branch-good k (tour u d a) (tour u d b)
           (tour-good a d k (sub-left eq (gather f g h a) (gather f g h b) k s))
@@ -677,8 +677,8 @@ module _ {K : Type 0} (eq : K → K → Bool) where
         length-append (gather f g no-use a) (gather f g no-use b) in
         let y : length (gather f g whole a ++ gather f g whole b) ≡ length (gather f g whole a) + length (gather f g whole b) =
         length-append (gather f g whole a) (gather f g whole b) in omega arith
-    spread (use-of s) = omega arith
-    spread (set-of o s) = omega arith
+    spread (use-of a) = omega arith
+    spread (set-of o a) = omega arith
     spread (stop w) = omega arith
     spread (branch a b) = let p = spread a in let q = spread b in
         let x : length (gather f g no-use a ++ gather f g no-use b) ≡ length (gather f g no-use a) + length (gather f g no-use b) =
@@ -695,10 +695,10 @@ module _ {K : Type 0} (eq : K → K → Bool) where
     way-times (a ⨟ b) d = times-two (5 - d) (way eq f g whole d a) (way eq f g whole d b) (most eq f g whole a) (gather f g whole a)
         (gather f g whole b)
         (way-times a d) (way-times b d) (once-length (gather f g whole a))
-    way-times (use-of s) d = let p : most eq f g whole (use-of s) ≤ length (f s) = once-length (f s) in
-        let q : length (f s) ≤ times (5 - d) (length (f s)) = times-le (5 - d) (length (f s)) in omega arith
-    way-times (set-of o s) d = let p : most eq f g whole (set-of o s) ≤ length (g o s) = once-length (g o s) in
-        let q : length (g o s) ≤ times (5 - d) (length (g o s)) = times-le (5 - d) (length (g o s)) in omega arith
+    way-times (use-of a) d = let p : most eq f g whole (use-of a) ≤ length (f (a .spot)) = once-length (f (a .spot)) in
+        let q : length (f (a .spot)) ≤ times (5 - d) (length (f (a .spot))) = times-le (5 - d) (length (f (a .spot))) in omega arith
+    way-times (set-of o a) d = let p : most eq f g whole (set-of o a) ≤ length (g o (a .spot)) = once-length (g o (a .spot)) in
+        let q : length (g o (a .spot)) ≤ times (5 - d) (length (g o (a .spot))) = times-le (5 - d) (length (g o (a .spot))) in omega arith
     way-times (stop w) d = omega arith
     way-times (branch a b) d = let p : max (way eq f g whole d a) (most eq f g whole a + way eq f g whole d b) ≤ times (5 - d)
         (length (gather f g whole a ++ gather f g whole b)) =

@@ -10,7 +10,7 @@ use lib.ListN.{length, drop, length-append, length-drop}
 use lib.Seq.{drop-at}
 use Rattle.tree.specs.Judge as tree
 use Rattle.tree.specs.Judge.{judged}
-use Rattle.tree.specs.Forest.{Spot, Forest, treeOf}
+use Rattle.tree.specs.Forest.{Head, Forest, treeOf}
 use Rattle.tree.specs.Table.{tableOf, spells}
 use Rattle.tree.specs.declared.Facts.{Facts}
 use Rattle.tree.specs.declared.Refusal.{Refusal as Unfitness}
@@ -162,10 +162,10 @@ module _ {is-fail is-none : ℕ → Bool} {f : Forest} where
   kept-in {names} {flow} {ns} {fs} d g g′ = record {
     unset = λ b s w r. both s (d .unset b s w r);
     end = λ {h} {k} {why} {τ} w r. g′ (missing h (spot-at 6 k) why) (d .end w r);
-    bare-return = λ {h} {k} {why} {t} {τ} w r. g′ (missing-expression h (spot-at 6 k) why t) (d .bare-return w r);
+    bare-return = λ {h} {k} {why} {g = b} {τ} w r. g′ (missing-expression h (spot-at 6 k) why b) (d .bare-return w r);
   }
     where
-      both : (s : Spot) → Told s names → Told s ns
+      both : (s : Head) → Told s names → Told s ns
       both s (inl m) = inl (g (named-at 4 s) m)
       both s (inr m) = inr (g (named-at 6 s) m)
 

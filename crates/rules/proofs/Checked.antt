@@ -27,18 +27,18 @@ module _ (f : Facts) where
   unfolding refusal
   work-one-short = refl
 
-  -- 11 before 12: "answer room under eight words a record", place "records needed"
-  pub answer-one-short : refusal (the-file (Valid f) ∷ work-room 32768 ∷ answer-room 2 15 ∷ other-room 1 0 ∷ []) ≡ some (AnswerRoom 2)
+  -- 11 before 12: "Answer room is counted in ten words", place "records needed"
+  pub answer-one-short : refusal (the-file (Valid f) ∷ work-room 32768 ∷ answer-room 2 19 ∷ other-room 1 0 ∷ []) ≡ some (AnswerRoom 2)
   unfolding refusal
   answer-one-short = refl
 
   -- 12 last
-  pub other-one-short : refusal (the-file (Valid f) ∷ work-room 32768 ∷ answer-room 2 16 ∷ other-room 5 4 ∷ []) ≡ some (OtherRoom 5)
+  pub other-one-short : refusal (the-file (Valid f) ∷ work-room 32768 ∷ answer-room 2 20 ∷ other-room 5 4 ∷ []) ≡ some (OtherRoom 5)
   unfolding refusal
   other-one-short = refl
 
   -- each room at its number; no records need no room
-  pub at-the-borders : refusal (the-file (Valid f) ∷ work-room 32768 ∷ answer-room 2 16 ∷ other-room 5 5 ∷ []) ≡ none
+  pub at-the-borders : refusal (the-file (Valid f) ∷ work-room 32768 ∷ answer-room 2 20 ∷ other-room 5 5 ∷ []) ≡ none
   unfolding refusal
   at-the-borders = refl
 

@@ -19,8 +19,8 @@ use Rattle.rules.proofs.Spots.{same-exact}
 use Rattle.rules.proofs.Look.{case}
 
 -- a run's use is a use of the part
-reach-use : {s : Spot} {c : Cmd} {σ : Held} → Reach s c σ → Use s c
-reach-use {s} (here n) = same-exact s
+reach-use : {g : Head} {c : Cmd} {σ : Held} → Reach g c σ → Use (g .spot) c
+reach-use {g} (here n) = same-exact (g .spot)
 reach-use (before r) = inl (reach-use r)
 reach-use (after q r) = inr (reach-use r)
 reach-use (left r) = inl (reach-use r)
@@ -72,10 +72,10 @@ abbrev pub Unique : Forest → Type 0
 Unique f = (s : Spot) → count s f ≤ 1
 
 -- THE MODULE: a use of one of its own names that a run reaches unset is in the names list under 4 or 6.
-pub module-uses : (is-fail underscore : ℕ → Bool) (globals : Option (ℕ → Bool)) (f : Forest) (s : Spot) → T (shaped f) → Unique f
-    → Reach s (body is-fail f) nobody → T (own (s .value) (body is-fail f)) → T (good s (names underscore is-fail globals f))
-module-uses is-fail underscore globals f s o u r w = module-flagged underscore globals (body is-fail f) s
-    (not-T (inner-sets s (body is-fail f)) (λ t. apart is-fail s 0 f o (u s) (reach-use r) (inner-of s (body is-fail f) t))) r w
+pub module-uses : (is-fail underscore : ℕ → Bool) (globals : Option (ℕ → Bool)) (f : Forest) (g : Head) → T (shaped f) → Unique f
+    → Reach g (body is-fail f) nobody → T (own (g .spot .value) (body is-fail f)) → T (good (g .spot) (names underscore is-fail globals f))
+module-uses is-fail underscore globals f g o u r w = module-flagged underscore globals (body is-fail f) g
+    (not-T (inner-sets (g .spot) (body is-fail f)) (λ t. apart is-fail (g .spot) 0 f o (u (g .spot)) (reach-use r) (inner-of (g .spot) (body is-fail f) t))) r w
 
 -- where defs may stand
 abbrev pub is-def : Form → Bool
@@ -258,14 +258,14 @@ module _ (is-fail : ℕ → Bool) (s : Spot) where
       (shaped-rest g j r o) (omega arith) p)
 
 -- A DEF, anywhere in the tree: the same of its body.
-pub def-uses : (is-fail underscore : ℕ → Bool) (globals : Option (ℕ → Bool)) (f : Forest) (h : Head) (k : Forest) (s : Spot) → T (roots f)
+pub def-uses : (is-fail underscore : ℕ → Bool) (globals : Option (ℕ → Bool)) (f : Forest) (h : Head) (k : Forest) (g : Head) → T (roots f)
     → T (placed f) → T (shaped f) → Unique f
-    → Node h k f → h .kind ≡ 12 → Reach s (def-body is-fail k) nobody → T (own (s .value) (def-body is-fail k))
-    → T (good s (names underscore is-fail globals f))
-def-uses is-fail underscore globals f h k s z d o u n e r w = def-flagged underscore globals (body is-fail f) (def-body is-fail k) s
-    (subst (λ (x : ℕ). Holds s (def-body is-fail k) (takes is-fail (of-role x) f)) (sym (way-root (way-of n .1) z))
-    (way-holds is-fail s (way-of n .1) e d o (u s) (in-body (reach-use r)))) r w
+    → Node h k f → h .kind ≡ 12 → Reach g (def-body is-fail k) nobody → T (own (g .spot .value) (def-body is-fail k))
+    → T (good (g .spot) (names underscore is-fail globals f))
+def-uses is-fail underscore globals f h k g z d o u n e r w = def-flagged underscore globals (body is-fail f) (def-body is-fail k) g
+    (subst (λ (x : ℕ). Holds (g .spot) (def-body is-fail k) (takes is-fail (of-role x) f)) (sym (way-root (way-of n .1) z))
+    (way-holds is-fail (g .spot) (way-of n .1) e d o (u (g .spot)) (in-body (reach-use r)))) r w
   where
-    in-body : Use s (def-body is-fail k) → Use s (takes is-fail (of-role 1) k)
-    in-body (inl p) = absurd (binds-no-use s 0 k p)
+    in-body : Use (g .spot) (def-body is-fail k) → Use (g .spot) (takes is-fail (of-role 1) k)
+    in-body (inl p) = absurd (binds-no-use (g .spot) 0 k p)
     in-body (inr p) = p

@@ -12,7 +12,7 @@ use Rattle.tree.specs.Nodes.{parentIn, parentOf, limitOf, known, wrong-node, de
 use Rattle.tree.specs.Children.{classOf, slotOf, all-stand, many, all-filled, in-pairs, for-first, in-order, kids-fit, rootOk, wrong-children}
 use Rattle.tree.specs.Judge.{checks, factsOf, judged}
 use Rattle.tree.specs.Written.{file}
-use Rattle.rules.specs.Names.{names-list}
+use Rattle.rules.specs.Names.{met-in, names-list}
 use Rattle.rules.specs.Flow.{flow-list}
 use Rattle.rules.specs.Incompatible.{incompatible-list}
 use Rattle.rules.specs.Dubious.{dubious-list}
@@ -21,7 +21,7 @@ use Rattle.rules.specs.Known.{rows-hold}
 use Rattle.rules.specs.Examples.{one-literal, value-one, file-given, examples, borders, keep-to}
 
 pub shown : (rows-hold examples && keep-to borders) ≡ true
-unfolding judged checks factsOf first u16At u32At nodeCount valueCount globalCount kindAt roleAt sizeAt beginAt endAt valueAt lastAt spotAt headAt forestIn forestOf treeOf offset formed precedes wrong-value wrong-global parentIn parentOf limitOf known wrong-node depthIn depthOf too-deep classOf slotOf all-stand many all-filled in-pairs for-first in-order kids-fit rootOk wrong-children names-list flow-list incompatible-list dubious-list lint-list
+unfolding judged checks factsOf first u16At u32At nodeCount valueCount globalCount kindAt roleAt sizeAt beginAt endAt valueAt lastAt spotAt headAt forestIn forestOf treeOf offset formed precedes wrong-value wrong-global parentIn parentOf limitOf known wrong-node depthIn depthOf too-deep classOf slotOf all-stand many all-filled in-pairs for-first in-order kids-fit rootOk wrong-children met-in names-list flow-list incompatible-list dubious-list lint-list
 shown = refl
 
 -- "47 bytes", either way

@@ -16,9 +16,9 @@ use Rattle.tree.specs.declared.Mode.{Mode}
 use Rattle.tree.specs.Table.{tableOf, spells, underscored, globalsOf, a-string, at}
 use Rattle.rules.proofs.Out.{names-few}
 use Rattle.rules.specs.Joined.{lint-list}
-use Rattle.rules.specs.Names.{names, told, names-list}
-use Rattle.rules.specs.Record.{Rec, listed, plainly, named-at, with-value}
-use Rattle.rules.specs.Visit.{has, look, last-of, spot-at, each as each-node, kind-at}
+use Rattle.rules.specs.Names.{names, met-in, told, names-list}
+use Rattle.rules.specs.Record.{Rec, listed, valued-at, plainly, named-at}
+use Rattle.rules.specs.Visit.{has, look, last-of, head-at, spot-at, each as each-node, kind-at}
 use Rattle.rules.specs.Order.{Bind, one, several, nothing, bind-of, fail-name}
 use Rattle.rules.specs.Flow.{flow, Loads, loads-part, loads, effect, effect-part, effect-walk, tail-part, tail, redundant-part, redundant-walk, below-root, Reached, Course, in-list, one-by-one, only, after-stop, reached-part, reached, Return, everything, the-body, the-rest, returns-part, returns, ends, missing, missing-expression, bare-recs, check-for, check, reason, returns-walk, none-name, flow-list}
 use Rattle.rules.specs.Incompatible.{check-at, type-check, Deed, defines, repeats, deed-part, defined-names, self-set, Top, assigning, modifying, defining, loading, holding, aside, tops, top-part, deeds, First, first-of, times, defined, may-repeat, repeated, incompatible, once, type-name, five-types, spells-one, incompatible-list}
@@ -58,14 +58,14 @@ part-most z h k =
     let Q : List Return → Type 0 = λ l. length l ≤ suc (length (returns everything k)) in
     row Q (eqb z 4) _ _ (omega arith) (row Q (eqb z 12) _ _ (omega arith) (omega arith))
 
-bare-most : (h : Head) (name why : Spot) (rs : List Return) → length (bare-recs h name why rs) ≤ length rs
+bare-most : (h : Head) (name : Spot) (why : Head) (rs : List Return) → length (bare-recs h name why rs) ≤ length rs
 bare-most h name why [] = omega arith
 bare-most h name why (r ∷ rs) =
-    let p = listed-most (not (r .valued)) (missing-expression h name why (r .spot) ∷ []) (bare-recs h name why rs) in
+    let p = listed-most (not (r .valued)) (missing-expression h name why (r .head) ∷ []) (bare-recs h name why rs) in
     let q = bare-most h name why rs in omega arith
 
 module _ (is-fail is-none : ℕ → Bool) where
-  check-most : (h : Head) (k : Forest) (o : Option Spot) → length (check-for is-fail is-none h k o) ≤ suc (length (returns the-body k))
+  check-most : (h : Head) (k : Forest) (o : Option Head) → length (check-for is-fail is-none h k o) ≤ suc (length (returns the-body k))
   check-most h k none = omega arith
   check-most h k (some why) =
       let p = listed-most (not (ends is-fail 1 k)) (missing h (spot-at 6 k) why ∷ []) (bare-recs h (spot-at 6 k) why (returns the-body k)) in
@@ -198,8 +198,8 @@ tail-most z l h k c =
     let n = c .one l 0 in
     let o = c .one l 1 in
     let p = c .two l 1 2 tt in
-    let q = listed-most l (plainly 11 (h .spot) ∷ []) [] in
-    let r = listed-most (not l && not (has 4 k)) (plainly 10 (h .spot) ∷ []) [] in
+    let q = listed-most l (plainly 11 h ∷ []) [] in
+    let r = listed-most (not l && not (has 4 k)) (plainly 10 h ∷ []) [] in
     let e = length-append (tail l 1 k) (tail l 2 k) in
     let Q : List Rec → Type 0 = λ x. length (redundant-walk k) + length x ≤ suc (nodes k) in
     row Q (eqb z 2) _ _ (omega arith) (row Q (eqb z 4) _ _ (omega arith) (row Q (eqb z 8) _ _ (omega arith) (row Q (eqb z 9) _ _ (omega arith) (row Q (eqb z 10) _ _ (omega arith) (omega arith)))))
@@ -250,7 +250,7 @@ module _ (is-string : ℕ → Bool) where
       → length (loads-part is-string z may h k (λ v. loads is-string v k) .recs) ≤ suc (nodes k)
   load-most z may h k c =
       let p = c may in
-      let q = listed-most (not may) (plainly 12 (h .spot) ∷ []) [] in
+      let q = listed-most (not may) (plainly 12 h ∷ []) [] in
       let Q : Loads → Type 0 = λ l. length (l .recs) ≤ suc (nodes k) in
       row Q (eqb z 5) _ _ (omega arith) (row Q (eqb z 8) _ _ (omega arith) (row Q (eqb z 13) _ _ (omega arith) (omega arith)))
 
@@ -267,7 +267,7 @@ module _ (is-string : ℕ → Bool) where
   effect-few leaf = omega arith
   effect-few (node h k s) =
       let q = effect-few k in
-      let r = listed-most (not (effect is-string k)) (plainly 13 (spot-at 4 k) ∷ []) [] in
+      let r = listed-most (not (effect is-string k)) (plainly 13 (head-at 4 k) ∷ []) [] in
       let p : length (effect-part is-string (h .kind) k (effect-walk is-string k)) ≤ suc (nodes k)
       = row (λ l. length l ≤ suc (nodes k)) (eqb (h .kind) 5) _ _ (omega arith) (omega arith) in
       let d = effect-few s in
@@ -310,7 +310,7 @@ each-few g c (node h k s) =
     let d = length-append (each-node g k) (each-node g s) in
     omega arith
 
-bind-most : (z : Bind) (s : Spot) (k : Forest) → length (defined-names 0 k) ≤ nodes k → length (deed-part z s (λ v. defined-names v k)) ≤ suc (nodes k)
+bind-most : (z : Bind) (s : Head) (k : Forest) → length (defined-names 0 k) ≤ nodes k → length (deed-part z s (λ v. defined-names v k)) ≤ suc (nodes k)
 bind-most (one o) s k c = omega arith
 bind-most several s k c = omega arith
 bind-most nothing s k c = omega arith
@@ -318,17 +318,17 @@ bind-most nothing s k c = omega arith
 named-few : (r : ℕ) (f : Forest) → length (defined-names r f) ≤ nodes f
 named-few r leaf = omega arith
 named-few r (node h k s) =
-    let a = bind-most (bind-of h) (h .spot) k (named-few 0 k) in
+    let a = bind-most (bind-of h) h k (named-few 0 k) in
     let b = named-few r s in
-    let p = listed-most (eqb r (h .role)) (deed-part (bind-of h) (h .spot) (λ v. defined-names v k)) (defined-names r s) in
+    let p = listed-most (eqb r (h .role)) (deed-part (bind-of h) h (λ v. defined-names v k)) (defined-names r s) in
     omega arith
 
-cond-most : (b : Bool) (s : Spot) (l : List Deed) (n : ℕ) → length l ≤ n → length (cond b (repeats s ∷ []) l) ≤ suc n
+cond-most : (b : Bool) (s : Head) (l : List Deed) (n : ℕ) → length l ≤ n → length (cond b (repeats s ∷ []) l) ≤ suc n
 cond-most true s l n h = omega arith
 cond-most false s l n h = omega arith
 
 top-most : (z : Top) (k : Forest) → length (deeds k) ≤ nodes k → length (top-part z k (deeds k)) ≤ suc (nodes k)
-top-most assigning k c = cond-most (self-set k) (spot-at 5 k) (defined-names 5 k) (nodes k) (named-few 5 k)
+top-most assigning k c = cond-most (self-set k) (head-at 5 k) (defined-names 5 k) (nodes k) (named-few 5 k)
 top-most modifying k c = let p = named-few 5 k in omega arith
 top-most defining k c = let p = named-few 6 k in omega arith
 top-most loading k c = let p = named-few 0 k in omega arith
@@ -343,9 +343,9 @@ deeds-few (node h k s) =
     let p = length-append (top-part (look (h .kind) tops aside) k (deeds k)) (deeds s) in
     omega arith
 
-defined-most : (o : Option First) (l : Bool) (s : Spot) (ds : List First) (on : List First → List Rec) (n : ℕ)
+defined-most : (o : Option First) (l : Bool) (s : Head) (ds : List First) (on : List First → List Rec) (n : ℕ)
     → ((v : List First) → length (on v) ≤ n) → length (defined o l s ds on) ≤ suc n
-defined-most none l s ds on n c = let p = c (record { spot = s; loaded = l } ∷ ds) in omega arith
+defined-most none l s ds on n c = let p = c (record { head = s; loaded = l } ∷ ds) in omega arith
 defined-most (some d) l s ds on n c = let p = c ds in omega arith
 
 pick-most : (b : Bool) (x y : List Rec) (n : ℕ) → length x ≤ n → length y ≤ suc n
@@ -356,19 +356,19 @@ pick-most false x y n p q = q
 module _ (free : ℕ → Bool) where
   judge-few : (es : List Deed) (ds : List First) (xs : List ℕ) → length (repeated free es ds xs) ≤ length es
   judge-few [] ds xs = omega arith
-  judge-few (defines l s ∷ es) ds xs = defined-most (first-of (s .value) ds) l s ds (λ v. repeated free es v xs) (length es)
+  judge-few (defines l s ∷ es) ds xs = defined-most (first-of (s .spot .value) ds) l s ds (λ v. repeated free es v xs) (length es)
       (λ v. judge-few es v xs)
   judge-few (repeats s ∷ es) ds xs =
-      pick-most (may-repeat free (first-of (s .value) ds) (times (s .value) xs)) (repeated free es ds (s .value ∷ xs))
-      (defined (first-of (s .value) ds) false s ds (λ v. repeated free es v xs)) (length es) (judge-few es ds (s .value ∷ xs))
-      (defined-most (first-of (s .value) ds) false s ds (λ v. repeated free es v xs) (length es) (λ v. judge-few es v xs))
+      pick-most (may-repeat free (first-of (s .spot .value) ds) (times (s .spot .value) xs)) (repeated free es ds (s .spot .value ∷ xs))
+      (defined (first-of (s .spot .value) ds) false s ds (λ v. repeated free es v xs)) (length es) (judge-few es ds (s .spot .value ∷ xs))
+      (defined-most (first-of (s .spot .value) ds) false s ds (λ v. repeated free es v xs) (length es) (λ v. judge-few es v xs))
 
 -- INCOMPATIBLE: at most two records a node
 pub incompatible-few : (free is-type names-type : ℕ → Bool) (f : Forest) → length (incompatible free is-type names-type f) ≤ 2 * nodes f
 incompatible-few free is-type names-type f =
     let a = each-few (check-at is-type names-type)
     (λ h k. listed-one ((eqb 31 (h .kind) || eqb 32 (h .kind)) && type-check is-type names-type k)
-    (named-at 14 (with-value (h .spot) (spot-at 2 k .value)))) f in
+    (valued-at 14 h (spot-at 2 k .value))) f in
     let b = judge-few free (deeds f) [] [] in
     let c = deeds-few f in
     let e = length-append (each-node (check-at is-type names-type) f) (repeated free (deeds f) [] []) in
@@ -376,17 +376,17 @@ incompatible-few free is-type names-type f =
 
 -- ---- dubious
 
-clash-one : (l : Likeness) (old s : Spot) (on : List Rec) → length on ≤ 1 → length (clash l old s on) ≤ 1
+clash-one : (l : Likeness) (old s : Head) (on : List Rec) → length on ≤ 1 → length (clash l old s on) ≤ 1
 clash-one Different old s on h = h
 clash-one SameForm old s on h = omega arith
 clash-one SameNumber old s on h = omega arith
 
 module _ (test : ℕ → ℕ → Likeness) where
-  against-one : (s : Spot) (seen : List Spot) → length (against test s seen) ≤ 1
+  against-one : (s : Head) (seen : List Head) → length (against test s seen) ≤ 1
   against-one s [] = omega arith
-  against-one s (old ∷ seen) = clash-one (test (old .value) (s .value)) old s (against test s seen) (against-one s seen)
+  against-one s (old ∷ seen) = clash-one (test (old .spot .value) (s .spot .value)) old s (against test s seen) (against-one s seen)
 
-  doubles-few : (seen ss : List Spot) → length (doubles test seen ss) ≤ length ss
+  doubles-few : (seen ss : List Head) → length (doubles test seen ss) ≤ length ss
   doubles-few seen [] = omega arith
   doubles-few seen (s ∷ ss) =
       let a = against-one s seen in
@@ -404,14 +404,14 @@ module _ (test : ℕ → ℕ → Likeness) where
       let d = dicts-most s in
       let e = length-append (dict-at test h k) (each-node (dict-at test) k ++ each-node (dict-at test) s) in
       let g = length-append (each-node (dict-at test) k) (each-node (dict-at test) s) in
-      let i = listed-most (eqb 8 (h .role) && (eqb 20 (h .kind) || eqb 21 (h .kind))) (h .spot ∷ []) (keys s) in
+      let i = listed-most (eqb 8 (h .role) && (eqb 20 (h .kind) || eqb 21 (h .kind))) (h ∷ []) (keys s) in
       omega (arith, a, b, c, d, e, g, i)
 
   -- DUBIOUS: at most two records a node
   pub dubious-few : (f : Forest) → length (dubious test f) ≤ 2 * nodes f
   dubious-few f =
       let a = dicts-most f in
-      let b = each-few idle-at (λ h k. listed-one (eqb 5 (h .kind) && eqb 20 (kind-at 4 k)) (named-at 17 (spot-at 4 k))) f in
+      let b = each-few idle-at (λ h k. listed-one (eqb 5 (h .kind) && eqb 20 (kind-at 4 k)) (named-at 17 (head-at 4 k))) f in
       let e = length-append (each-node (dict-at test) f) (each-node idle-at f) in
       omega (arith, a, b, e)
 
@@ -421,7 +421,7 @@ pub names-list-few : (t : List ℕ) → length (names-list t) ≤ nodes (treeOf 
 unfolding names-list
 names-list-few t =
     let ws = names (underscored (tableOf t)) (spells (tableOf t) fail-name) (globalsOf t) (treeOf t) in
-    let a = length-map ws told in
+    let a = length-map ws (told (met-in t)) in
     let b = names-few (underscored (tableOf t)) (spells (tableOf t) fail-name) (treeOf t) (globalsOf t) in
     omega (arith, a, b)
 

@@ -6,11 +6,11 @@ use mathlib.Core.List.{List, [], _∷_, _++_, List·Memᴰ, List·Memᴰ·head, 
 use mathlib.Core.Logic.{_⊎_, inl, inr}
 use mathlib.Core.Option.{Option, none, some}
 use lib.Dec.{eqb, leb, T}
-use Rattle.tree.specs.Forest.{Spot}
+use Rattle.tree.specs.Forest.{Spot, Head}
 use Rattle.rules.specs.Order.{Cmd, skip, _⨟_, use-of, set-of, stop, branch, loop, scope}
-use Rattle.rules.specs.Names.{Standing, absent, maybe, definitely, sure, Scope, State, Search, Found, nowhere, surely, perhaps, search-out, use-out, use-as, branch-of, round, rounds, same-state, leave-to, enter, walk, fresh, set-names, same, Setting, Warning, warned, warn, warn-new, warn-if, warn-all, idle, spared, unused, farewell, passed, undefined, names-of}
+use Rattle.rules.specs.Names.{back-to, Standing, absent, maybe, definitely, sure, Scope, State, Search, Found, nowhere, surely, perhaps, search-out, use-out, use-as, branch-of, round, rounds, same-state, leave-to, enter, walk, fresh, set-names, same, Setting, Warning, warned, warn, warn-new, warn-if, warn-all, idle, spared, unused, farewell, passed, undefined, names-of}
 use Rattle.rules.proofs.Keep.{Kept, kept-cons, walk-keeps, scope-same}
-use Rattle.rules.proofs.Invariant.{Ok, ok-within, ok-back, back, sound, grows}
+use Rattle.rules.proofs.Invariant.{Ok, ok-within, ok-back, sound, grows}
 use Rattle.rules.proofs.Bools.{or-cases, nor-both, nor-left, nor-right, never, or-left, or-right, both}
 use Rattle.rules.specs.Runs.{Held, nobody, Reach, here, first as before, second as after, left, right, now, later, continued, own}
 use Rattle.rules.proofs.Spots.{same-exact}
@@ -190,7 +190,7 @@ as-grows s t st (definitely ss) = record { cant = λ m. m; sets = λ x h. h; goo
 
 branch-grows : (s : Spot) (f g : State → State) → Grows s f → Grows s g → Grows s (branch-of f g)
 branch-grows s f g kf kg st =
-    let p = kf st in let q = kg (back st (f st)) in
+    let p = kf st in let q = kg (back-to st (f st)) in
     record { cant = λ m. q .cant (p .cant m); sets = λ x t. q .sets x (p .sets x t); good = λ h. q .good (p .good h) }
 
 round-grows : (s : Spot) (f : State → State) → Grows s f → Grows s (round f)
@@ -208,12 +208,12 @@ module _ (u : ℕ → Bool) where
   pub walk-grows : (s : Spot) (c : Cmd) (d : ℕ) → Grows s (walk u d c)
   walk-grows s skip d st = grow-refl s st
   walk-grows s (a ⨟ b) d st = grow-trans (walk-grows s a d st) (walk-grows s b d (walk u d a st))
-  walk-grows s (use-of t) d st = as-grows s t st (st .here .standing (t .value))
-  walk-grows s (set-of o t) d st = record {
+  walk-grows s (use-of g) d st = as-grows s (g .spot) st (st .here .standing (g .spot .value))
+  walk-grows s (set-of o g) d st = record {
     cant = λ m. m;
     sets = λ x h. set-names-append x (st .here .settings) (record {
       sort = o;
-      spot = t;
+      spot = g .spot;
     }) h;
     good = λ g. g;
   }
@@ -233,8 +233,8 @@ module _ (u : ℕ → Bool) where
 abbrev pub sets-at : Spot → Cmd → Bool
 sets-at s skip = false
 sets-at s (a ⨟ b) = sets-at s a || sets-at s b
-sets-at s (use-of t) = false
-sets-at s (set-of o t) = same s t
+sets-at s (use-of g) = false
+sets-at s (set-of o g) = same s (g .spot)
 sets-at s (stop w) = false
 sets-at s (branch a b) = sets-at s a || sets-at s b
 sets-at s (loop c) = sets-at s c
@@ -243,8 +243,8 @@ sets-at s (scope c) = false
 abbrev pub inner-sets : Spot → Cmd → Bool
 inner-sets s skip = false
 inner-sets s (a ⨟ b) = inner-sets s a || inner-sets s b
-inner-sets s (use-of t) = false
-inner-sets s (set-of o t) = false
+inner-sets s (use-of g) = false
+inner-sets s (set-of o g) = false
 inner-sets s (stop w) = false
 inner-sets s (branch a b) = inner-sets s a || inner-sets s b
 inner-sets s (loop c) = inner-sets s c
@@ -329,10 +329,10 @@ module _ (u : ℕ → Bool) where
   walk-bare s skip n d st h = h
   walk-bare s (a ⨟ b) n d st h = walk-bare s b (nor-right (sets-at s a) (sets-at s b) n) d (walk u d a st)
       (walk-bare s a (nor-left (sets-at s a) (sets-at s b) n) d st h)
-  walk-bare s (use-of t) n d st h = as-bare s t st (st .here .standing (t .value)) h
-  walk-bare s (set-of o t) n d st h = settled-append s (st .here .settings) (record { sort = o; spot = t }) h n
+  walk-bare s (use-of g) n d st h = as-bare s (g .spot) st (st .here .standing (g .spot .value)) h
+  walk-bare s (set-of o g) n d st h = settled-append s (st .here .settings) (record { sort = o; spot = (g .spot) }) h n
   walk-bare s (stop w) n d st h = h
-  walk-bare s (branch a b) n d st h = walk-bare s b (nor-right (sets-at s a) (sets-at s b) n) d (back st (walk u d a st))
+  walk-bare s (branch a b) n d st h = walk-bare s b (nor-right (sets-at s a) (sets-at s b) n) d (back-to st (walk u d a st))
       (walk-bare s a (nor-left (sets-at s a) (sets-at s b) n) d st h)
   walk-bare s (loop c) n d st h = rounds-bare s (leb (suc d) 5) (walk u (suc d) c) (walk-bare s c n (suc d)) st h
   walk-bare s (scope c) n d st h = subst (λ (l : List Setting). T (not (settled s l))) (scope-same u c d st .settings) h
@@ -341,10 +341,10 @@ module _ (u : ℕ → Bool) where
   walk-clean s skip n d st h = h
   walk-clean s (a ⨟ b) n d st h = walk-clean s b (nor-right (inner-sets s a) (inner-sets s b) n) d (walk u d a st)
       (walk-clean s a (nor-left (inner-sets s a) (inner-sets s b) n) d st h)
-  walk-clean s (use-of t) n d st h = as-clean s t st (st .here .standing (t .value)) h
-  walk-clean s (set-of o t) n d st h = h
+  walk-clean s (use-of g) n d st h = as-clean s (g .spot) st (st .here .standing (g .spot .value)) h
+  walk-clean s (set-of o g) n d st h = h
   walk-clean s (stop w) n d st h = h
-  walk-clean s (branch a b) n d st h = walk-clean s b (nor-right (inner-sets s a) (inner-sets s b) n) d (back st (walk u d a st))
+  walk-clean s (branch a b) n d st h = walk-clean s b (nor-right (inner-sets s a) (inner-sets s b) n) d (back-to st (walk u d a st))
       (walk-clean s a (nor-left (inner-sets s a) (inner-sets s b) n) d st h)
   walk-clean s (loop c) n d st h = rounds-clean s (leb (suc d) 5) (walk u (suc d) c) (walk-clean s c n (suc d)) st h
   walk-clean s (scope c) n d st h = leave-clean s u (st .here) (st .above) (walk u d c (enter st) .above) (walk u d c (enter st))
@@ -353,22 +353,22 @@ module _ (u : ℕ → Bool) where
       (walk-clean s c (nor-right (sets-at s c) (inner-sets s c) n) d (enter st) h)
 
   -- THE CORE LEMMA: the use that a run reaches unset is flagged by the walk
-  pub reached : {s : Spot} {c : Cmd} {σ : Held} → Reach s c σ → T (not (inner-sets s c)) → (d : ℕ) (st : State) → Ok σ st
-      → T (clean s (st .out))
-      → Flag s (walk u d c st .here) (walk u d c st .out)
-  reached {s} (here {σ = σ} n) i d st o k = as-flags s st (st .here .standing (s .value)) k
-      (λ t. never (σ (s .value)) (o .known (s .value) t) n)
-  reached {s} (before {a = a} {b = b} r) i d st o k =
-      flag-grows (walk-grows u s b d (walk u d a st)) (reached r (nor-left (inner-sets s a) (inner-sets s b) i) d st o k)
-  reached {s} (after {a = a} {b = b} q r) i d st o k =
-      reached r (nor-right (inner-sets s a) (inner-sets s b) i) d (walk u d a st) (sound u q d st o)
-      (walk-clean s a (nor-left (inner-sets s a) (inner-sets s b) i) d st k)
-  reached {s} (left {a = a} {b = b} r) i d st o k =
-      flag-grows (walk-grows u s b d (back st (walk u d a st))) (reached r (nor-left (inner-sets s a) (inner-sets s b) i) d st o k)
-  reached {s} (right {a = a} {b = b} r) i d st o k =
-      reached r (nor-right (inner-sets s a) (inner-sets s b) i) d (back st (walk u d a st)) (ok-back st (walk u d a st) o)
-      (walk-clean s a (nor-left (inner-sets s a) (inner-sets s b) i) d st k)
-  reached {s} (now {c = c} r) i d st o k = rounds-flag s (leb (suc d) 5) (walk u (suc d) c) (walk-grows u s c (suc d)) st
+  pub reached : {g : Head} {c : Cmd} {σ : Held} → Reach g c σ → T (not (inner-sets (g .spot) c)) → (d : ℕ) (st : State) → Ok σ st
+      → T (clean (g .spot) (st .out))
+      → Flag (g .spot) (walk u d c st .here) (walk u d c st .out)
+  reached {g} (here {σ = σ} n) i d st o k = as-flags (g .spot) st (st .here .standing (g .spot .value)) k
+      (λ t. never (σ (g .spot .value)) (o .known (g .spot .value) t) n)
+  reached {g} (before {a = a} {b = b} r) i d st o k =
+      flag-grows (walk-grows u (g .spot) b d (walk u d a st)) (reached r (nor-left (inner-sets (g .spot) a) (inner-sets (g .spot) b) i) d st o k)
+  reached {g} (after {a = a} {b = b} q r) i d st o k =
+      reached r (nor-right (inner-sets (g .spot) a) (inner-sets (g .spot) b) i) d (walk u d a st) (sound u q d st o)
+      (walk-clean (g .spot) a (nor-left (inner-sets (g .spot) a) (inner-sets (g .spot) b) i) d st k)
+  reached {g} (left {a = a} {b = b} r) i d st o k =
+      flag-grows (walk-grows u (g .spot) b d (back-to st (walk u d a st))) (reached r (nor-left (inner-sets (g .spot) a) (inner-sets (g .spot) b) i) d st o k)
+  reached {g} (right {a = a} {b = b} r) i d st o k =
+      reached r (nor-right (inner-sets (g .spot) a) (inner-sets (g .spot) b) i) d (back-to st (walk u d a st)) (ok-back st (walk u d a st) o)
+      (walk-clean (g .spot) a (nor-left (inner-sets (g .spot) a) (inner-sets (g .spot) b) i) d st k)
+  reached {g} (now {c = c} r) i d st o k = rounds-flag (g .spot) (leb (suc d) 5) (walk u (suc d) c) (walk-grows u (g .spot) c (suc d)) st
       (reached r i (suc d) st o k)
   reached (later q r) i d st o k = reached r i d st (ok-within (grows q) o) k
   reached (continued q r) i d st o k = reached r i d st (ok-within (grows q) o) k
@@ -383,26 +383,26 @@ module _ (u : ℕ → Bool) where
           → T (set-names x (walk u d b (walk u d a st) .here .settings))
       go (inl h) f g = walk-grows u (record { begin = 0; end = 0; value = 0 }) b d (walk u d a st) .sets x (f h)
       go (inr h) f g = g h
-  own-set x (use-of s) t d st = absurd t
-  own-set x (set-of o s) t d st = set-names-last x (st .here .settings) (record { sort = o; spot = s }) t
+  own-set x (use-of g) t d st = absurd t
+  own-set x (set-of o g) t d st = set-names-last x (st .here .settings) (record { sort = o; spot = (g .spot) }) t
   own-set x (stop w) t d st = absurd t
   own-set x (branch a b) t d st = go (or-cases (own x a) (own x b) t) (λ h. own-set x a h d st)
-      (λ h. own-set x b h d (back st (walk u d a st)))
+      (λ h. own-set x b h d (back-to st (walk u d a st)))
     where
       go : {A B : Type 0} → A ⊎ B → (A → T (set-names x (walk u d a st .here .settings)))
-          → (B → T (set-names x (walk u d b (back st (walk u d a st)) .here .settings)))
-          → T (set-names x (walk u d b (back st (walk u d a st)) .here .settings))
-      go (inl h) f g = walk-grows u (record { begin = 0; end = 0; value = 0 }) b d (back st (walk u d a st)) .sets x (f h)
+          → (B → T (set-names x (walk u d b (back-to st (walk u d a st)) .here .settings)))
+          → T (set-names x (walk u d b (back-to st (walk u d a st)) .here .settings))
+      go (inl h) f g = walk-grows u (record { begin = 0; end = 0; value = 0 }) b d (back-to st (walk u d a st)) .sets x (f h)
       go (inr h) f g = g h
   own-set x (loop c) t d st = rounds-set x (leb (suc d) 5) (walk u (suc d) c)
       (λ s′. walk-grows u (record { begin = 0; end = 0; value = 0 }) c (suc d) s′) st (own-set x c t (suc d) st)
   own-set x (scope c) t d st = absurd t
 
 -- A use that a run of the module's body reaches unset, of one of its own names, is in the list under 4 or 6, where no nested scope sets at its place.
-pub module-flagged : (u : ℕ → Bool) (globals : Option (ℕ → Bool)) (m : Cmd) (s : Spot) → T (not (inner-sets s m)) → Reach s m nobody
-    → T (own (s .value) m)
-    → T (good s (names-of u globals m))
-module-flagged u globals m s i r w = go globals
+pub module-flagged : (u : ℕ → Bool) (globals : Option (ℕ → Bool)) (m : Cmd) (g : Head) → T (not (inner-sets (g .spot) m)) → Reach g m nobody
+    → T (own (g .spot .value) m)
+    → T (good (g .spot) (names-of u globals m))
+module-flagged u globals m g i r w = go globals
   where
     first : State
     first = record { here = fresh; above = []; out = [] }
@@ -410,13 +410,13 @@ module-flagged u globals m s i r w = go globals
     done : State
     done = walk u 0 m first
 
-    last : T (good s (farewell u true (done .here) (done .out)))
-    last = farewell-makes s u true (done .here) (done .out) (walk-clean u s m i 0 first tt) (own-set u (s .value) m w 0 first)
+    last : T (good (g .spot) (farewell u true (done .here) (done .out)))
+    last = farewell-makes (g .spot) u true (done .here) (done .out) (walk-clean u (g .spot) m i 0 first tt) (own-set u (g .spot .value) m w 0 first)
         (reached u r i 0 first (record { alive = refl; known = λ x t. t }) tt)
 
-    go : (g : Option (ℕ → Bool)) → T (good s (undefined g (done .here) (farewell u true (done .here) (done .out))))
+    go : (given : Option (ℕ → Bool)) → T (good (g .spot) (undefined given (done .here) (farewell u true (done .here) (done .out))))
     go none = last
-    go (some given) = all-good s 5 (λ t. not (given (t .value))) (passed (done .here)) (farewell u true (done .here) (done .out)) last
+    go (some given) = all-good (g .spot) 5 (λ t. not (given (t .value))) (passed (done .here)) (farewell u true (done .here) (done .out)) last
 
 -- Where the body b of a def stands in a part c: before it, and in it, no nested scope sets at s. (Then no other node of the tree has the place and name of s.)
 pub data Holds (s : Spot) (b : Cmd) : Cmd → Type 0 where
@@ -439,32 +439,32 @@ rounds-good s true f kf st h = round-grows s f kf (round f st) .good h
 rounds-good s false f kf st h = h
 
 module _ (u : ℕ → Bool) where
-  held-good : {s : Spot} {b c : Cmd} → Holds s b c → Reach s b nobody → T (own (s .value) b) → (d : ℕ) (st : State) → T (clean s (st .out))
-      → T (good s (walk u d c st .out))
-  held-good {s} {b} (this i) r w d st k = leave-makes s u (st .here) (st .above) (walk u d b (enter st) .above) (walk u d b (enter st))
+  held-good : {g : Head} {b c : Cmd} → Holds (g .spot) b c → Reach g b nobody → T (own (g .spot .value) b) → (d : ℕ) (st : State) → T (clean (g .spot) (st .out))
+      → T (good (g .spot) (walk u d c st .out))
+  held-good {g} {b} (this i) r w d st k = leave-makes (g .spot) u (st .here) (st .above) (walk u d b (enter st) .above) (walk u d b (enter st))
       (walk-keeps u b d (enter st))
-      (walk-clean u s b i d (enter st) k) (own-set u (s .value) b w d (enter st))
+      (walk-clean u (g .spot) b i d (enter st) k) (own-set u (g .spot .value) b w d (enter st))
       (reached u r i d (enter st) (record { alive = refl; known = λ x t. t }) k)
-  held-good {s} (into {c = c} h) r w d st k = leave-good s u (st .here) (st .above) (walk u d c (enter st) .above) (walk u d c (enter st))
+  held-good {g} (into {c = c} h) r w d st k = leave-good (g .spot) u (st .here) (st .above) (walk u d c (enter st) .above) (walk u d c (enter st))
       (walk-keeps u c d (enter st)) (held-good h r w d (enter st) k)
-  held-good {s} (first {a = a} {c = c} h) r w d st k = walk-grows u s c d (walk u d a st) .good (held-good h r w d st k)
-  held-good {s} (second {a = a} {c = c} i h) r w d st k = held-good h r w d (walk u d a st) (walk-clean u s a i d st k)
-  held-good {s} (left-side {a = a} {c = c} h) r w d st k = walk-grows u s c d (back st (walk u d a st)) .good (held-good h r w d st k)
-  held-good {s} (right-side {a = a} {c = c} i h) r w d st k = held-good h r w d (back st (walk u d a st)) (walk-clean u s a i d st k)
-  held-good {s} (looped {c = c} h) r w d st k = rounds-good s (leb (suc d) 5) (walk u (suc d) c) (walk-grows u s c (suc d)) st
+  held-good {g} (first {a = a} {c = c} h) r w d st k = walk-grows u (g .spot) c d (walk u d a st) .good (held-good h r w d st k)
+  held-good {g} (second {a = a} {c = c} i h) r w d st k = held-good h r w d (walk u d a st) (walk-clean u (g .spot) a i d st k)
+  held-good {g} (left-side {a = a} {c = c} h) r w d st k = walk-grows u (g .spot) c d (back-to st (walk u d a st)) .good (held-good h r w d st k)
+  held-good {g} (right-side {a = a} {c = c} i h) r w d st k = held-good h r w d (back-to st (walk u d a st)) (walk-clean u (g .spot) a i d st k)
+  held-good {g} (looped {c = c} h) r w d st k = rounds-good (g .spot) (leb (suc d) 5) (walk u (suc d) c) (walk-grows u (g .spot) c (suc d)) st
       (held-good h r w (suc d) st k)
 
 -- The same of a def's body.
-pub def-flagged : (u : ℕ → Bool) (globals : Option (ℕ → Bool)) (m b : Cmd) (s : Spot) → Holds s b m → Reach s b nobody
-    → T (own (s .value) b) → T (good s (names-of u globals m))
-def-flagged u globals m b s h r w = go globals
+pub def-flagged : (u : ℕ → Bool) (globals : Option (ℕ → Bool)) (m b : Cmd) (g : Head) → Holds (g .spot) b m → Reach g b nobody
+    → T (own (g .spot .value) b) → T (good (g .spot) (names-of u globals m))
+def-flagged u globals m b g h r w = go globals
   where
     done : State
     done = walk u 0 m (record { here = fresh; above = []; out = [] })
 
-    last : T (good s (farewell u true (done .here) (done .out)))
-    last = farewell-good s u true (done .here) (done .out) (held-good u h r w 0 (record { here = fresh; above = []; out = [] }) tt)
+    last : T (good (g .spot) (farewell u true (done .here) (done .out)))
+    last = farewell-good (g .spot) u true (done .here) (done .out) (held-good u h r w 0 (record { here = fresh; above = []; out = [] }) tt)
 
-    go : (g : Option (ℕ → Bool)) → T (good s (undefined g (done .here) (farewell u true (done .here) (done .out))))
+    go : (given : Option (ℕ → Bool)) → T (good (g .spot) (undefined given (done .here) (farewell u true (done .here) (done .out))))
     go none = last
-    go (some given) = all-good s 5 (λ t. not (given (t .value))) (passed (done .here)) (farewell u true (done .here) (done .out)) last
+    go (some given) = all-good (g .spot) 5 (λ t. not (given (t .value))) (passed (done .here)) (farewell u true (done .here) (done .out)) last

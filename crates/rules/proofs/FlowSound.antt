@@ -40,13 +40,13 @@ run-through (out r) = tt
 run-through apart = tt
 
 -- where a part can be left by the bare return at t
-abbrev Bares : Spot → Stop → Type 0
+abbrev Bares : Head → Stop → Type 0
 Bares t (breaks b) = ⊥
 Bares t (bare s) = t ≡ s
 Bares t valued = ⊥
 Bares t fails = ⊥
 
-abbrev By : Spot → Cmd → Type 0
+abbrev By : Head → Cmd → Type 0
 By t skip = ⊥
 By t (a ⨟ b) = By t a ⊎ By t b
 By t (use-of s) = ⊥
@@ -56,7 +56,7 @@ By t (branch a b) = By t a ⊎ By t b
 By t (loop c) = By t c
 By t (scope c) = ⊥
 
-run-by : {c : Cmd} {σ τ : Held} {t : Spot} → Run c σ (by (bare t)) τ → By t c
+run-by : {c : Cmd} {σ τ : Held} {t : Head} → Run c σ (by (bare t)) τ → By t c
 run-by (next r q) = inr (run-by q)
 run-by (cut r) = inl (run-by r)
 run-by (returned w) = refl
@@ -67,27 +67,27 @@ run-by (continues r q) = run-by q
 run-by (away w r) = run-by r
 
 -- setting names stops nothing
-picked-by : (t : Spot) (b : Bool) (X Y : Cmd) → (By t X → ⊥) → (By t Y → ⊥) → By t (picked b X Y) → ⊥
+picked-by : (t : Head) (b : Bool) (X Y : Cmd) → (By t X → ⊥) → (By t Y → ⊥) → By t (picked b X Y) → ⊥
 picked-by t false X Y p q h = q h
 picked-by t true X Y p q (inl h) = p h
 picked-by t true X Y p q (inr h) = q h
 
-bind-by : (t : Spot) (z : Bind) (h : Head) (down : ℕ → Cmd) → (By t (down 0) → ⊥) → By t (bind-part z h down) → ⊥
+bind-by : (t : Head) (z : Bind) (h : Head) (down : ℕ → Cmd) → (By t (down 0) → ⊥) → By t (bind-part z h down) → ⊥
 bind-by t (one o) h down k p = p
 bind-by t several h down k p = k p
 bind-by t nothing h down k p = p
 
-no-by-binds : (t : Spot) (r : ℕ) (f : Forest) → By t (binds r f) → ⊥
+no-by-binds : (t : Head) (r : ℕ) (f : Forest) → By t (binds r f) → ⊥
 no-by-binds t r leaf p = p
 no-by-binds t r (node h k s) p = picked-by t (eqb r (h .role)) (bind-part (bind-of h) h (λ v. binds v k)) (binds r s)
     (bind-by t (bind-of h) h (λ v. binds v k) (no-by-binds t 0 k)) (no-by-binds t r s) p
 
-use-by : (t : Spot) (z : Bind) (h : Head) (down : ℕ → Cmd) → (By t (down 0) → ⊥) → By t (use-part z h down) → ⊥
+use-by : (t : Head) (z : Bind) (h : Head) (down : ℕ → Cmd) → (By t (down 0) → ⊥) → By t (use-part z h down) → ⊥
 use-by t (one o) h down k p = p
 use-by t several h down k p = k p
 use-by t nothing h down k p = p
 
-no-by-uses : (t : Spot) (r : ℕ) (f : Forest) → By t (uses r f) → ⊥
+no-by-uses : (t : Head) (r : ℕ) (f : Forest) → By t (uses r f) → ⊥
 no-by-uses t r leaf p = p
 no-by-uses t r (node h k s) p = picked-by t (eqb r (h .role)) (use-part (bind-of h) h (λ v. uses v k)) (uses r s)
     (use-by t (bind-of h) h (λ v. uses v k) (no-by-uses t 0 k)) (no-by-uses t r s) p
@@ -103,8 +103,8 @@ no-fail true t p = p
 no-fail false t p = t
 
 -- a bare return at t is among these
-abbrev Bare-in : Spot → List Return → Type 0
-Bare-in t rs = List·Memᴰ (record { spot = t; valued = false }) rs
+abbrev Bare-in : Head → List Return → Type 0
+Bare-in t rs = List·Memᴰ (record { head = t; valued = false }) rs
 
 -- the nodes that are visited are among those whose returns are listed
 data Cover : Want → Which → Type 0 where
@@ -118,31 +118,31 @@ covers (role-covered f) x t = f x t
 covers-rest : (r : ℕ) → T (not (eqb 1 r)) → Cover (of-role r) the-rest
 covers-rest r h = role-covered (λ x t. subst (λ (y : ℕ). T (not (eqb 1 y))) (eqb→eq r x t) h)
 
-listed-on : (t : Spot) (u : Bool) (A B : List Return) → Bare-in t B → Bare-in t (listed u A B)
+listed-on : (t : Head) (u : Bool) (A B : List Return) → Bare-in t B → Bare-in t (listed u A B)
 listed-on t true A B m = Memᴰ·append-right A m
 listed-on t false A B m = m
 
-listed-in : (t : Spot) (u : Bool) (A B : List Return) → T u → Bare-in t A → Bare-in t (listed u A B)
+listed-in : (t : Head) (u : Bool) (A B : List Return) → T u → Bare-in t A → Bare-in t (listed u A B)
 listed-in t true A B h m = Memᴰ·append-left B m
 listed-in t false A B h m = absurd h
 
-pick-found : (t : Spot) (b u : Bool) (X Y : Cmd) (A B : List Return) → (T b → T u) → (By t X → Bare-in t A) → (By t Y → Bare-in t B)
+pick-found : (t : Head) (b u : Bool) (X Y : Cmd) (A B : List Return) → (T b → T u) → (By t X → Bare-in t A) → (By t Y → Bare-in t B)
     → By t (picked b X Y) → Bare-in t (listed u A B)
 pick-found t false u X Y A B h p q r = listed-on t u A B (q r)
 pick-found t true u X Y A B h p q (inl r) = listed-in t u A B (h tt) (p r)
 pick-found t true u X Y A B h p q (inr r) = listed-on t u A B (q r)
 
-bare-here : (t s : Spot) (b : Bool) (rs : List Return) → Bares t (cond b valued (bare s)) → Bare-in t (record { spot = s; valued = b } ∷ rs)
+bare-here : (t s : Head) (b : Bool) (rs : List Return) → Bares t (cond b valued (bare s)) → Bare-in t (record { head = s; valued = b } ∷ rs)
 bare-here t s true rs p = absurd p
-bare-here t s false rs p = List·Memᴰ·head (ap (λ (z : Spot). record { spot = z; valued = false }) p)
+bare-here t s false rs p = List·Memᴰ·head (ap (λ (z : Head). record { head = z; valued = false }) p)
 
-no-by-cond : (t : Spot) (b : Bool) → By t (cond b (stop fails) skip) → ⊥
+no-by-cond : (t : Head) (b : Bool) → By t (cond b (stop fails) skip) → ⊥
 no-by-cond t true p = p
 no-by-cond t false p = p
 
 -- what a node's form says of the two, for the walk goes by forms
 abbrev returns-form : Form → Head → Forest → (Which → List Return) → List Return
-returns-form z h k down = case z ((Form.returning, record { spot = h .spot; valued = has 4 k } ∷ down everything) ∷ (Form.def, down the-rest) ∷ []) (down everything)
+returns-form z h k down = case z ((Form.returning, record { head = h; valued = has 4 k } ∷ down everything) ∷ (Form.def, down the-rest) ∷ []) (down everything)
 
 abbrev ends-form : (ℕ → Bool) → Form → Forest → (ℕ → Bool) → Bool
 ends-form is-fail z k down = case z ((Form.returning, true) ∷ (Form.expression, fail-called is-fail k) ∷ (Form.statements, down 0)
@@ -150,7 +150,7 @@ ends-form is-fail z k down = case z ((Form.returning, true) ∷ (Form.expression
 
 returns-by : (n : ℕ) (h : Head) (k : Forest) (down : Which → List Return) → returns-part n h k down ≡ returns-form (look n forms Form.plain) h k down
 returns-by n h k down =
-    let rows : List (ℕ × List Return) = (4, record { spot = h .spot; valued = has 4 k } ∷ down everything) ∷ (12, down the-rest) ∷ [] in
+    let rows : List (ℕ × List Return) = (4, record { head = h; valued = has 4 k } ∷ down everything) ∷ (12, down the-rest) ∷ [] in
     look-with (λ m z. returns-part m h k down ≡ returns-form z h k down) n forms Form.plain
     (refl, (refl, (refl, (refl, (refl, (refl, (refl, (refl, (refl, (refl, (refl, (refl, (refl, (refl, (refl, (refl, tt))))))))))))))))
     (λ u. look-none n rows (down everything) (fewer n rows forms tt u))
@@ -162,7 +162,7 @@ ends-by is-fail n k down =
     (refl, (refl, (refl, (refl, (refl, (refl, (refl, (refl, (refl, (refl, (refl, (refl, (refl, (refl, (refl, (refl, tt))))))))))))))))
     (λ u. look-none n rows false (fewer n rows forms tt u))
 
-into-part : (t : Spot) (z : Form) (h : Head) (k : Forest) (down : Which → List Return) → Bare-in t (down everything)
+into-part : (t : Head) (z : Form) (h : Head) (k : Forest) (down : Which → List Return) → Bare-in t (down everything)
     → Bare-in t (down the-rest) → Bare-in t (returns-form z h k down)
 into-part t Form.breaking h k down a b = a
 into-part t Form.returning h k down a b = List·Memᴰ·tail a
@@ -212,19 +212,19 @@ module _ (is-fail is-none is-string : ℕ → Bool) where
       (λ u. part-ends (form-of h) h k (λ v. ends-surely v k) (subst T (ends-by is-fail (h .kind) k (λ v. ends is-fail v k)) u)) (ends-surely r s) t p
 
   -- a bare return by which a part is left is among its returns
-  abbrev Found : Spot → Forest → Type 0
+  abbrev Found : Head → Forest → Type 0
   Found t k = (w : Want) (v : Which) → Cover w v → By t (takes is-fail w k) → Bare-in t (returns v k)
 
-  kid : (t : Spot) (z : Form) (h : Head) (k : Forest) → Found t k → (r : ℕ) → T (not (eqb 1 r)) → By t (takes is-fail (of-role r) k)
+  kid : (t : Head) (z : Form) (h : Head) (k : Forest) → Found t k → (r : ℕ) → T (not (eqb 1 r)) → By t (takes is-fail (of-role r) k)
       → Bare-in t (returns-form z h k (λ v. returns v k))
   kid t z h k ih r n p = into-part t z h k (λ v. returns v k) (ih (of-role r) everything all-covered p)
       (ih (of-role r) the-rest (covers-rest r n) p)
 
-  part-found : (t : Spot) (z : Form) (h : Head) (k : Forest) → Found t k → By t (part is-fail z h k (λ v. takes is-fail v k))
+  part-found : (t : Head) (z : Form) (h : Head) (k : Forest) → Found t k → By t (part is-fail z h k (λ v. takes is-fail v k))
       → Bare-in t (returns-form z h k (λ v. returns v k))
   part-found t Form.breaking h k ih p = absurd p
   part-found t Form.returning h k ih (inl p) = kid t Form.returning h k ih 4 tt p
-  part-found t Form.returning h k ih (inr p) = bare-here t (h .spot) (has 4 k) (returns everything k) p
+  part-found t Form.returning h k ih (inr p) = bare-here t h (has 4 k) (returns everything k) p
   part-found t Form.expression h k ih (inl p) = kid t Form.expression h k ih 4 tt p
   part-found t Form.expression h k ih (inr p) = absurd (no-by-cond t (fail-called is-fail k) p)
   part-found t Form.assign h k ih (inl p) = kid t Form.assign h k ih 3 tt p
@@ -259,12 +259,12 @@ module _ (is-fail is-none is-string : ℕ → Bool) where
   part-found t Form.comprehension h k ih (inr p) = absurd p
   part-found t Form.plain h k ih p = ih every everything all-covered p
 
-  over-found : (t : Spot) (b : Bool) (X Y : Cmd) (A B : List Return) → (By t X → Bare-in t A) → (By t Y → Bare-in t B)
+  over-found : (t : Head) (b : Bool) (X Y : Cmd) (A B : List Return) → (By t X → Bare-in t A) → (By t Y → Bare-in t B)
       → By t (elim b as (λ x. Cmd) [ false ↦ Y | true ↦ X ]) → Bare-in t (A ++ B)
   over-found t false X Y A B p q r = Memᴰ·append-right A (q r)
   over-found t true X Y A B p q r = Memᴰ·append-left B (p r)
 
-  bound-found : (t : Spot) (b : Bool) (X Y Z W : Cmd) (A B : List Return) → (By t X → Bare-in t A) → (By t Z → ⊥) → (By t W → Bare-in t B)
+  bound-found : (t : Head) (b : Bool) (X Y Z W : Cmd) (A B : List Return) → (By t X → Bare-in t A) → (By t Z → ⊥) → (By t W → Bare-in t B)
       → (By t Y → Bare-in t B)
       → By t (elim b as (λ x. Cmd) [ false ↦ Y | true ↦ X ⨟ Z ⨟ W ]) → Bare-in t (A ++ B)
   bound-found t false X Y Z W A B p n o q r = Memᴰ·append-right A (q r)
@@ -272,17 +272,17 @@ module _ (is-fail is-none is-string : ℕ → Bool) where
   bound-found t true X Y Z W A B p n o q (inr (inl r)) = absurd (n r)
   bound-found t true X Y Z W A B p n o q (inr (inr r)) = Memᴰ·append-right A (o r)
 
-  three : (t : Spot) (X Y Z : Cmd) (A : List Return) → (By t X → Bare-in t A) → (By t Y → Bare-in t A) → (By t Z → ⊥) → By t (X ⨟ Y ⨟ Z)
+  three : (t : Head) (X Y Z : Cmd) (A : List Return) → (By t X → Bare-in t A) → (By t Y → Bare-in t A) → (By t Z → ⊥) → By t (X ⨟ Y ⨟ Z)
       → Bare-in t A
   three t X Y Z A p q n (inl r) = p r
   three t X Y Z A p q n (inr (inl r)) = q r
   three t X Y Z A p q n (inr (inr r)) = absurd (n r)
 
-  by-kind : (t : Spot) (h : Head) (k : Forest) → Bare-in t (returns-form (form-of h) h k (λ v. returns v k))
+  by-kind : (t : Head) (h : Head) (k : Forest) → Bare-in t (returns-form (form-of h) h k (λ v. returns v k))
       → Bare-in t (returns-part (h .kind) h k (λ v. returns v k))
   by-kind t h k m = subst (Bare-in t) (sym (returns-by (h .kind) h k (λ v. returns v k))) m
 
-  found : (t : Spot) (w : Want) (v : Which) (f : Forest) → Cover w v → By t (takes is-fail w f) → Bare-in t (returns v f)
+  found : (t : Head) (w : Want) (v : Which) (f : Forest) → Cover w v → By t (takes is-fail w f) → Bare-in t (returns v f)
   found t w v leaf c p = absurd p
   found t (of-role r) v (node h k s) c p = pick-found t (eqb r (h .role)) (wanted v (h .role))
       (part is-fail (form-of h) h k (λ x. takes is-fail x k)) (takes is-fail (of-role r) s)
@@ -308,20 +308,20 @@ module _ (is-fail is-none is-string : ℕ → Bool) where
       (found t clauses everything s all-covered) p
 
 module _ (is-fail is-none is-string : ℕ → Bool) where
-  one-bare : (h : Head) (name why t : Spot) (r : Return) (rs : List Rec) → record { spot = t; valued = false } ≡ r
-      → List·Memᴰ (missing-expression h name why t) (listed (not (r .valued)) (missing-expression h name why (r .spot) ∷ []) rs)
+  one-bare : (h : Head) (name : Spot) (why t : Head) (r : Return) (rs : List Rec) → record { head = t; valued = false } ≡ r
+      → List·Memᴰ (missing-expression h name why t) (listed (not (r .valued)) (missing-expression h name why (r .head) ∷ []) rs)
   one-bare h name why t r rs e = subst (λ (z : Return). List·Memᴰ (missing-expression h name why t)
-      (listed (not (z .valued)) (missing-expression h name why (z .spot) ∷ []) rs)) e (List·Memᴰ·head refl)
+      (listed (not (z .valued)) (missing-expression h name why (z .head) ∷ []) rs)) e (List·Memᴰ·head refl)
 
   recs-on : (x : Rec) (u : Bool) (A B : List Rec) → List·Memᴰ x B → List·Memᴰ x (listed u A B)
   recs-on x true A B m = Memᴰ·append-right A m
   recs-on x false A B m = m
 
-  bare-listed : (h : Head) (name why t : Spot) (rs : List Return) → Bare-in t rs
+  bare-listed : (h : Head) (name : Spot) (why t : Head) (rs : List Return) → Bare-in t rs
       → List·Memᴰ (missing-expression h name why t) (bare-recs h name why rs)
   bare-listed h name why t rs (List·Memᴰ·head {x = r} {xs = us} e) = one-bare h name why t r (bare-recs h name why us) e
   bare-listed h name why t rs (List·Memᴰ·tail {x = r} {xs = us} m) =
-      recs-on (missing-expression h name why t) (not (r .valued)) (missing-expression h name why (r .spot) ∷ []) (bare-recs h name why us)
+      recs-on (missing-expression h name why t) (not (r .valued)) (missing-expression h name why (r .head) ∷ []) (bare-recs h name why us)
       (bare-listed h name why t us m)
 
   walked : (x : Rec) (h : Head) (k f : Forest) → Node h k f → List·Memᴰ x (check is-fail is-none (h .kind) h k)
@@ -332,26 +332,26 @@ module _ (is-fail is-none is-string : ℕ → Bool) where
   walked x h k f (beside {g = g} {j = j} {s = s} n) m =
       Memᴰ·append-right (check is-fail is-none (g .kind) g j) (Memᴰ·append-right (returns-walk is-fail is-none j) (walked x h k s n m))
 
-  in-flow : (x : Rec) (h : Head) (k f : Forest) (why : Spot) → Node h k f → h .kind ≡ 12 → reason is-none k ≡ some why
+  in-flow : (x : Rec) (h : Head) (k f : Forest) (why : Head) → Node h k f → h .kind ≡ 12 → reason is-none k ≡ some why
       → List·Memᴰ x (check-for is-fail is-none h k (some why)) → List·Memᴰ x (flow is-fail is-none is-string f)
   in-flow x h k f why n e r m = Memᴰ·append-left (reached is-fail (only 0) f .recs
       ++ (redundant-walk (below-root f) ++ (loads is-string true f .recs ++ effect-walk is-string f)))
       (walked x h k f n (subst (λ (z : ℕ). List·Memᴰ x (check is-fail is-none z h k)) (sym e)
-      (subst (λ (z : Option Spot). List·Memᴰ x (check-for is-fail is-none h k z)) (sym r) m)))
+      (subst (λ (z : Option Head). List·Memᴰ x (check-for is-fail is-none h k z)) (sym r) m)))
 
   not-ends : (b : Bool) (x : Rec) (B : List Rec) → (T b → ⊥) → List·Memᴰ x (listed (not b) (x ∷ []) B)
   not-ends true x B n = absurd (n tt)
   not-ends false x B n = List·Memᴰ·head refl
 
   -- A run of a def that wants a value reaches its end: the flow list has the def under missing return.
-  pub end-flagged : (f : Forest) (h : Head) (k : Forest) (why : Spot) (τ : Held) → Node h k f → h .kind ≡ 12 → reason is-none k ≡ some why
+  pub end-flagged : (f : Forest) (h : Head) (k : Forest) (why : Head) (τ : Held) → Node h k f → h .kind ≡ 12 → reason is-none k ≡ some why
       → Run (def-body is-fail k) nobody through τ → List·Memᴰ (missing h (spot-at 6 k) why) (flow is-fail is-none is-string f)
   end-flagged f h k why τ n e r q = in-flow (missing h (spot-at 6 k) why) h k f why n e r
       (not-ends (ends is-fail 1 k) (missing h (spot-at 6 k) why) (bare-recs h (spot-at 6 k) why (returns the-body k))
       (λ t. ends-surely is-fail is-none is-string 1 k t (run-through q .1)))
 
   -- It reaches a bare return: the flow list has that return under missing return expression.
-  pub bare-flagged : (f : Forest) (h : Head) (k : Forest) (why t : Spot) (τ : Held) → Node h k f → h .kind ≡ 12
+  pub bare-flagged : (f : Forest) (h : Head) (k : Forest) (why t : Head) (τ : Held) → Node h k f → h .kind ≡ 12
       → reason is-none k ≡ some why
       → Run (def-body is-fail k) nobody (by (bare t)) τ
       → List·Memᴰ (missing-expression h (spot-at 6 k) why t) (flow is-fail is-none is-string f)
@@ -365,10 +365,10 @@ module _ (is-fail is-none is-string : ℕ → Bool) where
       inner (inr p) = found is-fail is-none is-string t (of-role 1) the-body k (role-covered (λ x z. z)) p
 
 -- DEMAND 3, the flow half, of every tree: a run of a def that wants a value, which reaches its end or a bare return.
-pub flow-demand : (is-fail is-none is-string : ℕ → Bool) (f : Forest) (h : Head) (k : Forest) (why : Spot) (τ : Held) → Node h k f
+pub flow-demand : (is-fail is-none is-string : ℕ → Bool) (f : Forest) (h : Head) (k : Forest) (why : Head) (τ : Held) → Node h k f
     → h .kind ≡ 12 → reason is-none k ≡ some why
     → (Run (def-body is-fail k) nobody through τ → List·Memᴰ (missing h (spot-at 6 k) why) (flow is-fail is-none is-string f))
-    × ((t : Spot) → Run (def-body is-fail k) nobody (by (bare t)) τ
+    × ((t : Head) → Run (def-body is-fail k) nobody (by (bare t)) τ
     → List·Memᴰ (missing-expression h (spot-at 6 k) why t) (flow is-fail is-none is-string f))
 flow-demand is-fail is-none is-string f h k why τ n e r = (
   (λ q. end-flagged is-fail is-none is-string f h k why τ n e r q),

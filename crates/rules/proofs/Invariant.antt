@@ -5,7 +5,7 @@ use mathlib.Core.Bool.{Bool, true, false, _||_, cond}
 use lib.Dec.{eqb, leb, T}
 use Rattle.tree.specs.Forest.{Spot}
 use Rattle.rules.specs.Order.{Cmd}
-use Rattle.rules.specs.Names.{Abort, no-abort, loop-abort, function-abort, aborts, smaller, unloop, Standing, absent, maybe, definitely, sure, spots, stand-if, join, join-sure, has-standing, State, Search, Found, nowhere, surely, perhaps, stands, search-out, use-out, use-as, branch-of, round, rounds, same-state, walk, same}
+use Rattle.rules.specs.Names.{back-to, Abort, no-abort, loop-abort, function-abort, aborts, smaller, unloop, Standing, absent, maybe, definitely, sure, spots, stand-if, join, join-sure, has-standing, State, Search, Found, nowhere, surely, perhaps, stands, search-out, use-out, use-as, branch-of, round, rounds, same-state, walk, same}
 use Rattle.rules.specs.Runs.{Held, End, through, Run, skips, next, cut, uses, sets, breaking, returns, left, right, done, round as goes, continues, out, away, apart}
 use Rattle.rules.proofs.Bools.{or-right}
 use Rattle.rules.proofs.Keep.{scope-same}
@@ -19,7 +19,7 @@ grows skips x t = t
 grows (next r q) x t = grows q x (grows r x t)
 grows (cut r) x t = grows r x t
 grows uses x t = t
-grows (sets {s = s} {σ = σ}) x t = or-right (eqb x (s .value)) (σ x) t
+grows (sets {h = h} {σ = σ}) x t = or-right (eqb x (h .spot .value)) (σ x) t
 grows breaking x t = t
 grows (returns w) x t = t
 grows (left r) x t = grows r x t
@@ -93,26 +93,22 @@ smaller-none no-abort = refl
 smaller-none loop-abort = refl
 smaller-none function-abort = refl
 
--- the second side's start
-abbrev pub back : State → State → State
-back st one = record { here = stands (st .here .standing) (st .here .abort) (one .here); above = one .above; out = one .out }
-
-pub ok-back : {σ : Held} (st one : State) → Ok σ st → Ok σ (back st one)
+pub ok-back : {σ : Held} (st one : State) → Ok σ st → Ok σ (back-to st one)
 ok-back st one o = record { alive = o .alive; known = o .known }
 
 ok-left : {τ : Held} (f g : State → State) (st : State) → Ok τ (f st) → Ok τ (branch-of f g st)
 ok-left f g st o = record {
-  alive = subst (λ (a : Abort). smaller a (g (back st (f st)) .here .abort) ≡ no-abort) (sym (o .alive)) refl;
-  known = λ x t. o .known x (sure-one (g (back st (f st)) .here .abort) (f st .here .standing x) (g (back st (f st)) .here .standing x)
-      (subst (λ (a : Abort). T (sure (join a (g (back st (f st)) .here .abort) (f st .here .standing x)
-      (g (back st (f st)) .here .standing x)))) (o .alive) t));
+  alive = subst (λ (a : Abort). smaller a (g (back-to st (f st)) .here .abort) ≡ no-abort) (sym (o .alive)) refl;
+  known = λ x t. o .known x (sure-one (g (back-to st (f st)) .here .abort) (f st .here .standing x) (g (back-to st (f st)) .here .standing x)
+      (subst (λ (a : Abort). T (sure (join a (g (back-to st (f st)) .here .abort) (f st .here .standing x)
+      (g (back-to st (f st)) .here .standing x)))) (o .alive) t));
 }
 
-ok-right : {τ : Held} (f g : State → State) (st : State) → Ok τ (g (back st (f st))) → Ok τ (branch-of f g st)
+ok-right : {τ : Held} (f g : State → State) (st : State) → Ok τ (g (back-to st (f st))) → Ok τ (branch-of f g st)
 ok-right f g st o = record {
   alive = subst (λ (a : Abort). smaller (f st .here .abort) a ≡ no-abort) (sym (o .alive)) (smaller-none (f st .here .abort));
-  known = λ x t. o .known x (sure-two (f st .here .abort) (f st .here .standing x) (g (back st (f st)) .here .standing x)
-      (subst (λ (a : Abort). T (sure (join (f st .here .abort) a (f st .here .standing x) (g (back st (f st)) .here .standing x))))
+  known = λ x t. o .known x (sure-two (f st .here .abort) (f st .here .standing x) (g (back-to st (f st)) .here .standing x)
+      (subst (λ (a : Abort). T (sure (join (f st .here .abort) a (f st .here .standing x) (g (back-to st (f st)) .here .standing x))))
       (o .alive) t));
 }
 
@@ -130,14 +126,14 @@ module _ (u : ℕ → Bool) where
   pub sound : {c : Cmd} {σ τ : Held} → Run c σ through τ → (d : ℕ) (st : State) → Ok σ st → Ok τ (walk u d c st)
   sound skips d st o = o
   sound (next {a = a} r q) d st o = sound q d (walk u d a st) (sound r d st o)
-  sound (uses {s = s}) d st o = let e = use-standing s st (st .here .standing (s .value)) in ok-same (e .0) (e .1) o
-  sound (sets {o = k} {s = s} {σ = σ}) d st o = record {
+  sound (uses {h = h}) d st o = let e = use-standing (h .spot) st (st .here .standing (h .spot .value)) in ok-same (e .0) (e .1) o
+  sound (sets {o = k} {h = h} {σ = σ}) d st o = record {
     alive = o .alive;
-    known = λ x t. set-known (eqb x (s .value)) (σ x) (st .here .standing x) (same s) (o .known x) t;
+    known = λ x t. set-known (eqb x (h .spot .value)) (σ x) (st .here .standing x) (same (h .spot)) (o .known x) t;
   }
   sound (left {a = a} {b = b} r) d st o = ok-left (walk u d a) (walk u d b) st (sound r d st o)
   sound (right {a = a} {b = b} r) d st o = ok-right (walk u d a) (walk u d b) st
-      (sound r d (back st (walk u d a st)) (ok-back st (walk u d a st) o))
+      (sound r d (back-to st (walk u d a st)) (ok-back st (walk u d a st) o))
   sound (done {c = c}) d st o = ok-rounds (leb (suc d) 5) (walk u (suc d) c) st o
   sound (goes {c = c} r q) d st o = ok-within (λ x t. grows q x (grows r x t)) (ok-rounds (leb (suc d) 5) (walk u (suc d) c) st o)
   sound (continues {c = c} r q) d st o = ok-within (λ x t. grows q x (grows r x t)) (ok-rounds (leb (suc d) 5) (walk u (suc d) c) st o)

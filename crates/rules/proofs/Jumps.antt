@@ -30,10 +30,10 @@ Tight c = (σ τ : Held) (j : Broken) → Run c σ (by (breaks j)) τ → ⊥
 tight-skip : Tight skip
 tight-skip σ τ j = elim [ ]
 
-tight-use : (s : Spot) → Tight (use-of s)
+tight-use : (s : Head) → Tight (use-of s)
 tight-use s σ τ j = elim [ ]
 
-tight-set : (o : Sort) (s : Spot) → Tight (set-of o s)
+tight-set : (o : Sort) (s : Head) → Tight (set-of o s)
 tight-set o s σ τ j = elim [ ]
 
 tight-scope : (c : Cmd) → Tight (scope c)
@@ -52,7 +52,7 @@ tight-loop c σ τ j (round {τ = υ} r q) = tight-loop c υ τ j q
 tight-loop c σ τ j (continues {τ = υ} r q) = tight-loop c υ τ j q
 tight-loop c σ τ j (away t r) = t
 
-tight-return : (b : Bool) (s : Spot) → Tight (stop (cond b valued (bare s)))
+tight-return : (b : Bool) (s : Head) → Tight (stop (cond b valued (bare s)))
 tight-return true s σ τ j = elim [ ]
 tight-return false s σ τ j = elim [ ]
 
@@ -69,7 +69,7 @@ tight-either true f g = f
 tight-either false f g = g
 
 tight-bind : (z : Bind) (h : Head) (down : ℕ → Cmd) → Tight (down 0) → Tight (bind-part z h down)
-tight-bind (one o) h down f = tight-set o (h .spot)
+tight-bind (one o) h down f = tight-set o h
 tight-bind several h down f = f
 tight-bind nothing h down f = tight-skip
 
@@ -79,7 +79,7 @@ tight-binds r (node h k s) = tight-picked (eqb r (h .role)) (λ t. tight-bind (b
     (tight-binds r s)
 
 tight-as-use : (z : Bind) (h : Head) (down : ℕ → Cmd) → Tight (down 0) → Tight (use-part z h down)
-tight-as-use (one o) h down f = tight-use (h .spot)
+tight-as-use (one o) h down f = tight-use h
 tight-as-use several h down f = f
 tight-as-use nothing h down f = tight-skip
 
@@ -162,7 +162,7 @@ module _ (is-fail : ℕ → Bool) where
     (
       (λ t d. absurd t),
       (
-        (λ t d. tight-seq (role 4 4 k d tt) (tight-return (has 4 k) (h .spot))),
+        (λ t d. tight-seq (role 4 4 k d tt) (tight-return (has 4 k) h)),
         (
           (λ t d. tight-seq (role 5 4 k d tt) (tight-fail (fail-called is-fail k))),
           (
@@ -183,7 +183,7 @@ module _ (is-fail : ℕ → Bool) where
                         (
                           (λ t d. tight-binds 0 k),
                           (
-                            (λ t d. tight-use (h .spot)),
+                            (λ t d. tight-use h),
                             (
                               (λ t d. tight-seq (role 24 0 k d tt) (tight-scope _)),
                               (

@@ -86,8 +86,8 @@ module _ (u : ℕ → Bool) where
   pub walk-keeps : (c : Cmd) (d : ℕ) → Keeps (walk u d c)
   walk-keeps skip d st = kept-refl (st .above)
   walk-keeps (a ⨟ b) d st = kept-trans (walk-keeps a d st) (walk-keeps b d (walk u d a st))
-  walk-keeps (use-of s) d st = as-keeps s st (st .here .standing (s .value))
-  walk-keeps (set-of o s) d st = kept-refl (st .above)
+  walk-keeps (use-of h) d st = as-keeps (h .spot) st (st .here .standing (h .spot .value))
+  walk-keeps (set-of o h) d st = kept-refl (st .above)
   walk-keeps (stop w) d st = kept-refl (st .above)
   walk-keeps (branch a b) d st = branch-keeps (walk u d a) (walk u d b) (walk-keeps a d) (walk-keeps b d) st
   walk-keeps (loop c) d st = rounds-keeps (leb (suc d) 5) (walk u (suc d) c) (walk-keeps c (suc d)) st

@@ -88,8 +88,8 @@ module _ (underscore : ℕ → Bool) where
   abbrev pub walk-lean : ℕ → Cmd → State → State
   walk-lean depth skip st = st
   walk-lean depth (a ⨟ b) st = walk-lean depth b (walk-lean depth a st)
-  walk-lean depth (use-of s) st = use-as-lean s st (st .here .standing (s .value))
-  walk-lean depth (set-of o s) st = record { here = set-lean o s (st .here); above = st .above; out = st .out }
+  walk-lean depth (use-of h) st = use-as-lean (h .spot) st (st .here .standing (h .spot .value))
+  walk-lean depth (set-of o h) st = record { here = set-lean o (h .spot) (st .here); above = st .above; out = st .out }
   walk-lean depth (stop why) st = record { here = stands (st .here .standing) (abort-of why) (st .here); above = st .above; out = st .out }
   walk-lean depth (branch a b) st = branch-of (walk-lean depth a) (walk-lean depth b) st
   walk-lean depth (loop c) st = rounds (leb (suc depth) 5) (walk-lean (suc depth) c) st
@@ -410,8 +410,8 @@ module _ (u : ℕ → Bool) where
   pub walk-slim : (c : Cmd) (d : ℕ) → Slims (walk-lean u d c) (walk u d c)
   walk-slim skip d st = refl
   walk-slim (a ⨟ b) d st = ap (walk-lean u d b) (walk-slim a d st) ∙ walk-slim b d (walk u d a st)
-  walk-slim (use-of s) d st = as-slim s st (st .here .standing (s .value))
-  walk-slim (set-of o s) d st = λ i. record { here = slim-set o s (st .here) i; above = slims (st .above); out = st .out }
+  walk-slim (use-of h) d st = as-slim (h .spot) st (st .here .standing (h .spot .value))
+  walk-slim (set-of o h) d st = λ i. record { here = slim-set o (h .spot) (st .here) i; above = slims (st .above); out = st .out }
   walk-slim (stop w) d st = refl
   walk-slim (branch a b) d st = branch-slim (walk-lean u d a) (walk-lean u d b) (walk u d a) (walk u d b) (walk-slim a d) (walk-slim b d) st
   walk-slim (loop c) d st = rounds-slim (leb (suc d) 5) (walk-lean u (suc d) c) (walk u (suc d) c) (walk-slim c (suc d)) st

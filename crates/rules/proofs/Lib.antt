@@ -18,7 +18,10 @@ pub mod Marked
 pub mod Bounds
 pub mod Nodes
 pub mod Ways
+pub mod Meets
 pub mod Out
+pub mod FirstMet
+pub mod Numbered
 pub mod Seven
 pub mod Peak
 pub mod Few

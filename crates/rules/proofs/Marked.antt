@@ -8,7 +8,7 @@ use lib.Dec.{eqb, leb, T, eqb→eq, eqb-refl}
 use Rattle.tree.specs.Forest.{Spot, Forest, treeOf}
 use Rattle.tree.specs.Table.{tableOf, spells, underscored, globalsOf}
 use Rattle.rules.specs.Order.{Sort, Cmd, skip, _⨟_, use-of, set-of, stop, branch, loop, scope, body, fail-name}
-use Rattle.rules.specs.Names.{Abort, aborts, abort-of, Standing, absent, maybe, definitely, Spots, spots, sure, stand, has-standing, stand-if, join, join-sure, smaller, unloop, same, has-name, Setting, set-names, Scope, fresh, Warning, State, warn, warn-if, warn-all, keep, mark, stands, Found, nowhere, surely, perhaps, Search, search-step, search-out, use-out, use-as, branch-of, same-state, round, rounds, unused, is-assign, spared, idle, farewell, enter, passed, leave-to, walk, undefined, names-of, names, told, names-list}
+use Rattle.rules.specs.Names.{Abort, aborts, abort-of, Standing, absent, maybe, definitely, Spots, spots, sure, stand, has-standing, stand-if, join, join-sure, smaller, unloop, same, has-name, Setting, set-names, Scope, fresh, Warning, State, warn, warn-if, warn-all, keep, mark, stands, Found, nowhere, surely, perhaps, Search, search-step, search-out, use-out, use-as, branch-of, same-state, round, rounds, unused, is-assign, spared, idle, farewell, enter, passed, leave-to, walk, undefined, names-of, names, met-in, told, names-list}
 use Rattle.rules.proofs.Keep.{scope-same}
 use Rattle.rules.specs.code.Marks.{put, inside, add, adds, same-setting, Level, Absent, Maybe, Definitely, Entry, Chamber, House, empty-room, setting-of, settings-of, find, level-at, used-at, held-at, reset, resets, has-entry, set-entry, set-room, marks, mark-room, cannot-room, unbinds-room, stop-room, Looked, look-step, look-out, use-away, use-level, Note, notes, later-notes, restore, has-level, sure-level, level-if, join-level, merge, back-room, join-room, branch-house, same-house, round-house, rounds-house, spared-room, idle-room, sets-name, farewell-room, passed-room, enter-house, leave-house, tour, undefined-room, names-tour}
 use Rattle.rules.proofs.Bools.{nope, so, or-left, or-right, or-case}
@@ -491,8 +491,8 @@ module _ (u : ℕ → Bool) where
   pub walk-grows : (c : Cmd) (d : ℕ) → Grows (walk u d c)
   walk-grows skip d st = grown-refl (st .here .settings)
   walk-grows (a ⨟ b) d st = grown-trans (walk-grows a d st) (walk-grows b d (walk u d a st))
-  walk-grows (use-of s) d st = as-grows s st (st .here .standing (s .value))
-  walk-grows (set-of o s) d st = record { more = record { sort = o; spot = s } ∷ []; eq = refl }
+  walk-grows (use-of h) d st = as-grows (h .spot) st (st .here .standing (h .spot .value))
+  walk-grows (set-of o h) d st = record { more = record { sort = o; spot = (h .spot) } ∷ []; eq = refl }
   walk-grows (stop w) d st = grown-refl (st .here .settings)
   walk-grows (branch a b) d st = branch-grows (walk u d a) (walk u d b) (walk-grows a d) (walk-grows b d) st
   walk-grows (loop c) d st = rounds-grows (leb (suc d) 5) (walk u (suc d) c) (walk-grows c (suc d)) st
@@ -605,11 +605,11 @@ module _ (u : ℕ → Bool) where
   pub tour-holds : (c : Cmd) (d : ℕ) → Follows (walk u d c) (tour u d c)
   tour-holds skip d st m h = h
   tour-holds (a ⨟ b) d st m h = tour-holds b d (walk u d a st) (tour u d a m) (tour-holds a d st m h)
-  tour-holds (use-of s) d st m h = subst (λ (v : Level). Holds (walk u d (use-of s) st) (use-level s m v)) (sym (h .here .level (s .value)))
-      (as-holds s st m h (st .here .standing (s .value)) refl)
-  tour-holds (set-of o s) d st m h = record {
-    here = subst (λ (c : Scope). Shows c (set-room o s (m .here))) (slim-set o s (st .here))
-        (shows-set o s (h .here));
+  tour-holds (use-of g) d st m h = subst (λ (v : Level). Holds (walk u d (use-of g) st) (use-level (g .spot) m v)) (sym (h .here .level (g .spot .value)))
+      (as-holds (g .spot) st m h (st .here .standing (g .spot .value)) refl)
+  tour-holds (set-of o g) d st m h = record {
+    here = subst (λ (c : Scope). Shows c (set-room o (g .spot) (m .here))) (slim-set o (g .spot) (st .here))
+        (shows-set o (g .spot) (h .here));
     above = h .above;
     out = h .out;
   }
@@ -648,6 +648,6 @@ module _ (u : ℕ → Bool) where
 
 -- of a file's bytes: what crate names has to give
 pub tour-list : (t : List ℕ)
-    → map told (names-tour (underscored (tableOf t)) (globalsOf t) (body (spells (tableOf t) fail-name) (treeOf t))) ≡ names-list t
+    → map (told (met-in t)) (names-tour (underscored (tableOf t)) (globalsOf t) (body (spells (tableOf t) fail-name) (treeOf t))) ≡ names-list t
 unfolding names-list
-tour-list t = ap (map told) (tour-tree (underscored (tableOf t)) (spells (tableOf t) fail-name) (globalsOf t) (treeOf t))
+tour-list t = ap (map (told (met-in t))) (tour-tree (underscored (tableOf t)) (spells (tableOf t) fail-name) (globalsOf t) (treeOf t))

@@ -121,13 +121,13 @@ module _ {K : Type 0} (eq : K → K → Bool) (sound : (a b : K) → T (eq a b) 
     unfolding weight
     weight-stop w = refl
 
-    weight-use : (s : Spot) → weight (use-of s) ≤ length (f s)
+    weight-use : (a : Head) → weight (use-of a) ≤ length (f (a .spot))
     unfolding weight
-    weight-use s = let p : length (once eq (f s)) ≤ length (f s) = once-length eq (f s) in omega arith
+    weight-use a = let p : length (once eq (f (a .spot))) ≤ length (f (a .spot)) = once-length eq (f (a .spot)) in omega arith
 
-    weight-set : (o : Sort) (s : Spot) → weight (set-of o s) ≤ length (g o s)
+    weight-set : (o : Sort) (a : Head) → weight (set-of o a) ≤ length (g o (a .spot))
     unfolding weight
-    weight-set o s = let p : length (once eq (g o s)) ≤ length (g o s) = once-length eq (g o s) in omega arith
+    weight-set o a = let p : length (once eq (g o (a .spot))) ≤ length (g o (a .spot)) = once-length eq (g o (a .spot)) in omega arith
 
     weight-seq : (a b : Cmd) → weight (a ⨟ b) ≤ weight a + weight b
     unfolding weight
@@ -172,8 +172,8 @@ module _ {K : Type 0} (eq : K → K → Bool) (sound : (a b : K) → T (eq a b) 
 
       part-le : (y : Form) (h : Head) (k : Forest) → Claim k → weight (part is-fail y h k (λ v. takes is-fail v k)) ≤ suc (nodes k)
       part-le Form.breaking h k c = let e = weight-stop (breaks (broken-by h)) in omega arith
-      part-le Form.returning h k c = let e = weight-stop (cond (has 4 k) valued (bare (h .spot))) in let s =
-          weight-seq (takes is-fail (of-role 4) k) (stop (cond (has 4 k) valued (bare (h .spot)))) in
+      part-le Form.returning h k c = let e = weight-stop (cond (has 4 k) valued (bare h)) in let s =
+          weight-seq (takes is-fail (of-role 4) k) (stop (cond (has 4 k) valued (bare h))) in
           let a = c .by-role 4 in let r = roles-le (4 ∷ []) (tt, tt) k in omega arith
       part-le Form.expression h k c = let e = weight-either (fail-called is-fail k) fails in let s =
           weight-seq (takes is-fail (of-role 4) k) (cond (fail-called is-fail k) (stop fails) skip) in
@@ -217,7 +217,7 @@ module _ {K : Type 0} (eq : K → K → Bool) (sound : (a b : K) → T (eq a b) 
           let a = c .by-role 0 in let b = c .by-role 3 in let d = c .by-role 6 in let e = c .by-role 1 in let r =
           roles-le (0 ∷ 3 ∷ 6 ∷ 1 ∷ []) (tt, (tt, (tt, (tt, tt)))) k in omega arith
       part-le Form.load h k c = let a = c .by-role 0 in let r = roles-le (0 ∷ []) (tt, tt) k in omega arith
-      part-le Form.identifier h k c = let a = weight-use (h .spot) in let b = small (h .spot) Sort.load in omega arith
+      part-le Form.identifier h k c = let a = weight-use h in let b = small (h .spot) Sort.load in omega arith
       part-le Form.lambda h k c =
           let s1 = weight-seq (takes is-fail (of-role 0) k) (scope (binds 0 k ⨟ takes is-fail (of-role 1) k)) in
           let s4 = weight-scope (binds 0 k ⨟ takes is-fail (of-role 1) k) in let s5 =
@@ -239,8 +239,8 @@ module _ {K : Type 0} (eq : K → K → Bool) (sound : (a b : K) → T (eq a b) 
           (weight (use-part z h (λ v. uses v k)) + weight (bind-part z h (λ v. binds v k))) ≤ suc (nodes k)
       own-le nothing y h k l c = let a = part-le y h k c in let e = weight-skip in omega arith
       own-le (one o) y h k l c = subst (λ (v : Form). weight (part is-fail v h k (λ v. takes is-fail v k)) +
-          (weight (use-of (h .spot)) + weight (set-of o (h .spot))) ≤ suc (nodes k)) (sym l)
-          (let a = c .whole in let p = weight-use (h .spot) in let q = weight-set o (h .spot) in let r = small (h .spot) o in omega arith)
+          (weight (use-of h) + weight (set-of o h)) ≤ suc (nodes k)) (sym l)
+          (let a = c .whole in let p = weight-use h in let q = weight-set o h in let r = small (h .spot) o in omega arith)
       own-le several y h k l c = subst (λ (v : Form). weight (part is-fail v h k (λ v. takes is-fail v k)) +
           (weight (uses 0 k) + weight (binds 0 k)) ≤ suc (nodes k)) (sym l)
           (let a = c .whole in omega arith)

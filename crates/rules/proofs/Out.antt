@@ -9,11 +9,13 @@ use lib.Dec.{eqb, leb, T}
 use lib.ListN.{length, length-append}
 use Rattle.tree.specs.Forest.{Spot, Head, Forest, Forest.none as leaf, node}
 use Rattle.rules.specs.Order.{Sort, Cmd, skip, _⨟_, use-of, set-of, stop, branch, loop, scope, fails, Form, form-of, Bind, one, several, nothing, bind-of, bind-part, use-part, binds, uses, picked, Want, of-role, every, first-over, first-bound, clauses, part, takes, body, fail-called}
-use Rattle.rules.specs.Names.{names, Abort, abort-of, unloop, same, Warning, warned, warn-new, warn, warn-if, warn-all, keep, unused, Found, nowhere, surely, perhaps}
+use Rattle.rules.specs.Names.{names, met, Abort, abort-of, unloop, same, Warning, warned, warn-new, warn, warn-if, warn-all, keep, unused, Found, nowhere, surely, perhaps}
 use Rattle.rules.specs.code.Marks.{put, inside, add, adds, Level, Absent, Maybe, Definitely, Entry, Chamber, House, level-at, resets, has-entry, set-room, marks, mark-room, cannot-room, unbinds-room, stop-room, Looked, look-step, look-out, use-away, use-level, Note, notes, later-notes, restore, merge, back-room, join-room, branch-house, same-house, round-house, rounds-house, spared-room, idle-room, sets-name, farewell-room, passed-room, enter-house, leave-house, tour, undefined-room, names-tour, nodes, mid, start, Every, Every-rounds}
 use Rattle.rules.proofs.Spots.{same-sound, same-exact}
 use Rattle.rules.proofs.Bounds.{every-map, Plain, plain-add, pigeon, inside-left, inside-right}
 use Rattle.rules.proofs.Marked.{tour-tree}
+use Rattle.rules.proofs.Meets as Meets
+use Rattle.rules.proofs.Meets.{For-all, all-left, all-right, takes-met}
 use Rattle.rules.proofs.Bools.{or-left, or-right, or-case}
 
 -- the spots of warnings
@@ -240,25 +242,23 @@ module _ (p : Spot → Bool) where
     out = told-farewell u false (m .here) (m .out) (h .here) (h .out);
   }
 
-  -- a command whose spots are such ones
-  abbrev Of : Cmd → Type 0
-  Of skip = Unit {0}
-  Of (a ⨟ b) = Of a × Of b
-  Of (use-of s) = T (p s)
-  Of (set-of o s) = T (p s)
-  Of (stop w) = Unit {0}
-  Of (branch a b) = Of a × Of b
-  Of (loop c) = Of c
-  Of (scope c) = Of c
+  -- a command that has the walk meet such spots alone
+  abbrev pub At : Head → Type 0
+  At h = T (p (h .spot))
+
+  abbrev pub Of : Cmd → Type 0
+  Of c = For-all At (met c)
 
   module _ (u : ℕ → Bool) where
     keeps-tour : (c : Cmd) (d : ℕ) → Of c → Stays (tour u d c)
     keeps-tour skip d o m h = h
-    keeps-tour (a ⨟ b) d o m h = keeps-tour b d (o .1) (tour u d a m) (keeps-tour a d (o .0) m h)
-    keeps-tour (use-of s) d o m h = keeps-use s m (level-at (s .value) (m .here .entries)) o h
-    keeps-tour (set-of x s) d o m h = record { here = in-set x s (m .here) o (h .here); above = h .above; out = h .out }
+    keeps-tour (a ⨟ b) d o m h =
+        keeps-tour b d (all-right At (met a) (met b) o) (tour u d a m) (keeps-tour a d (all-left At (met a) (met b) o) m h)
+    keeps-tour (use-of g) d o m h = keeps-use (g .spot) m (level-at (g .spot .value) (m .here .entries)) (o .0) h
+    keeps-tour (set-of x g) d o m h = record { here = in-set x (g .spot) (m .here) (o .0) (h .here); above = h .above; out = h .out }
     keeps-tour (stop w) d o m h = record { here = in-stop (abort-of w) (m .here) (h .here); above = h .above; out = h .out }
-    keeps-tour (branch a b) d o m h = keeps-branch (tour u d a) (tour u d b) (keeps-tour a d (o .0)) (keeps-tour b d (o .1)) m h
+    keeps-tour (branch a b) d o m h = keeps-branch (tour u d a) (tour u d b) (keeps-tour a d (all-left At (met a) (met b) o))
+        (keeps-tour b d (all-right At (met a) (met b) o)) m h
     keeps-tour (loop c) d o m h = keeps-rounds (leb (suc d) 5) (tour u (suc d) c) (keeps-tour c (suc d) o) m h
     keeps-tour (scope c) d o m h =
         let r = keeps-tour c d o (enter-house m) (keeps-enter m h) in
@@ -280,16 +280,18 @@ module _ (p : Spot → Bool) where
 
     keeps-every : (c : Cmd) (d : ℕ) → Of c → (m : House) → Keeps m → Every u Keeps d c m
     keeps-every skip d o m h = h
-    keeps-every (a ⨟ b) d o m h = (keeps-every a d (o .0) m h, keeps-every b d (o .1) (tour u d a m) (keeps-tour a d (o .0) m h))
+    keeps-every (a ⨟ b) d o m h =
+        let l = all-left At (met a) (met b) o in
+        (keeps-every a d l m h, keeps-every b d (all-right At (met a) (met b) o) (tour u d a m) (keeps-tour a d l m h))
     keeps-every (use-of s) d o m h = (h, keeps-tour (use-of s) d o m h)
     keeps-every (set-of x s) d o m h = (h, keeps-tour (set-of x s) d o m h)
     keeps-every (stop w) d o m h = (h, keeps-tour (stop w) d o m h)
-    keeps-every (branch a b) d o m h = (
-      keeps-every a d (o .0) m h,
-      keeps-every b d (o .1) (mid m (tour u d a m))
-          (keeps-mid m (tour u d a m) (keeps-tour a d (o .0) m h)),
-      keeps-tour (branch a b) d o m h,
-    )
+    keeps-every (branch a b) d o m h =
+        let l = all-left At (met a) (met b) o in (
+          keeps-every a d l m h,
+          keeps-every b d (all-right At (met a) (met b) o) (mid m (tour u d a m)) (keeps-mid m (tour u d a m) (keeps-tour a d l m h)),
+          keeps-tour (branch a b) d o m h,
+        )
     keeps-every (loop c) d o m h =
         rounds-every (leb (suc d) 5) (Every u Keeps (suc d) c) (tour u (suc d) c) (keeps-tour c (suc d) o) (keeps-every c (suc d) o) m h
     keeps-every (scope c) d o m h = (h, keeps-every c d o (enter-house m) (keeps-enter m h), keeps-tour (scope c) d o m h)
@@ -312,89 +314,14 @@ module _ (K : List Spot) where
   abbrev is-of : Spot → Bool
   is-of s = inside same s K
 
-  -- a forest of which every spot is one of these
   abbrev Within : Forest → Type 0
-  Within leaf = Unit {0}
-  Within (node h k s) = T (is-of (h .spot)) × (Within k × Within s)
-
-  pick-of : (b : Bool) (x y : Cmd) → Of is-of x → Of is-of y → Of is-of (picked b x y)
-  pick-of false x y g h = h
-  pick-of true x y g h = (g, h)
-
-  bind-of-part : (z : Bind) (h : Head) (down : ℕ → Cmd) → T (is-of (h .spot)) → Of is-of (down 0) → Of is-of (bind-part z h down)
-  bind-of-part (one o) h down t g = t
-  bind-of-part several h down t g = g
-  bind-of-part nothing h down t g = tt
-
-  binds-of : (r : ℕ) (f : Forest) → Within f → Of is-of (binds r f)
-  binds-of r leaf w = tt
-  binds-of r (node h k s) w =
-      pick-of (eqb r (h .role)) (bind-part (bind-of h) h (λ v. binds v k)) (binds r s)
-      (bind-of-part (bind-of h) h (λ v. binds v k) (w .0) (binds-of 0 k (w .1 .0))) (binds-of r s (w .1 .1))
-
-  use-of-part : (z : Bind) (h : Head) (down : ℕ → Cmd) → T (is-of (h .spot)) → Of is-of (down 0) → Of is-of (use-part z h down)
-  use-of-part (one o) h down t g = t
-  use-of-part several h down t g = g
-  use-of-part nothing h down t g = tt
-
-  uses-of : (r : ℕ) (f : Forest) → Within f → Of is-of (uses r f)
-  uses-of r leaf w = tt
-  uses-of r (node h k s) w =
-      pick-of (eqb r (h .role)) (use-part (bind-of h) h (λ v. uses v k)) (uses r s)
-      (use-of-part (bind-of h) h (λ v. uses v k) (w .0) (uses-of 0 k (w .1 .0))) (uses-of r s (w .1 .1))
-
-  fail-of : (b : Bool) → Of is-of (cond b (stop fails) skip)
-  fail-of true = tt
-  fail-of false = tt
-
-  module _ (is-fail : ℕ → Bool) where
-    part-of : (z : Form) (h : Head) (k : Forest) → T (is-of (h .spot)) → Within k → ((v : Want) → Of is-of (takes is-fail v k))
-        → Of is-of (part is-fail z h k (λ v. takes is-fail v k))
-    part-of Form.breaking h k t w c = tt
-    part-of Form.returning h k t w c = (c (of-role 4), tt)
-    part-of Form.expression h k t w c = (c (of-role 4), fail-of (fail-called is-fail k))
-    part-of Form.assign h k t w c = (c (of-role 3), (c (of-role 4), (c (of-role 5), binds-of 5 k w)))
-    part-of Form.modify h k t w c = (c (of-role 4), (c (of-role 5), (uses-of 5 k w, (c (of-role 5), binds-of 5 k w))))
-    part-of Form.statements h k t w c = c (of-role 0)
-    part-of Form.if h k t w c = (c (of-role 4), (c (of-role 1), tt))
-    part-of Form.if-else h k t w c = (c (of-role 4), (c (of-role 1), c (of-role 2)))
-    part-of Form.for h k t w c = (c (of-role 4), (c (of-role 5), (binds-of 5 k w, c (of-role 1))))
-    part-of Form.def h k t w c = (c (of-role 0), (c (of-role 3), (binds-of 6 k w, (binds-of 0 k w, c (of-role 1)))))
-    part-of Form.load h k t w c = binds-of 0 k w
-    part-of Form.identifier h k t w c = t
-    part-of Form.lambda h k t w c = (c (of-role 0), (binds-of 0 k w, c (of-role 1)))
-    part-of Form.comprehension h k t w c = (c first-over, (c first-bound, (c (of-role 8), c (of-role 4))))
-    part-of Form.plain h k t w c = c every
-
-    over-of : (b : Bool) (x y : Cmd) → Of is-of x → Of is-of y → Of is-of (elim b as (λ z. Cmd) [ false ↦ y | true ↦ x ])
-    over-of true x y g h = g
-    over-of false x y g h = h
-
-    step-of : (v : Want) (h : Head) (k s : Forest) → Of is-of (part is-fail (form-of h) h k (λ v. takes is-fail v k)) → Within k
-        → ((v : Want) → Of is-of (takes is-fail v k)) → ((v : Want) → Of is-of (takes is-fail v s))
-        → Of is-of (takes is-fail v (node h k s))
-    step-of (of-role r) h k s a w c d = pick-of (eqb r (h .role)) (part is-fail (form-of h) h k (λ v. takes is-fail v k))
-        (takes is-fail (of-role r) s) a (d (of-role r))
-    step-of every h k s a w c d = (a, d every)
-    step-of first-over h k s a w c d = over-of (eqb 0 (h .role)) (takes is-fail (of-role 4) k) (takes is-fail first-over s) (c (of-role 4))
-        (d first-over)
-    step-of first-bound h k s a w c d =
-        over-of (eqb 0 (h .role)) (takes is-fail (of-role 5) k ⨟ binds 5 k ⨟ takes is-fail clauses s) (takes is-fail first-bound s)
-        (c (of-role 5), (binds-of 5 k w, d clauses)) (d first-bound)
-    step-of clauses h k s a w c d =
-        pick-of (eqb 0 (h .role)) (takes is-fail (of-role 4) k ⨟ takes is-fail (of-role 5) k ⨟ binds 5 k) (takes is-fail clauses s)
-        (c (of-role 4), (c (of-role 5), binds-of 5 k w)) (d clauses)
-
-    takes-of : (f : Forest) → Within f → (v : Want) → Of is-of (takes is-fail v f)
-    takes-of leaf w v = tt
-    takes-of (node h k s) w v =
-        step-of v h k s (part-of (form-of h) h k (w .0) (w .1 .0) (takes-of k (w .1 .0))) (w .1 .0) (takes-of k (w .1 .0))
-        (takes-of s (w .1 .1))
+  Within f = Meets.Within (λ h. T (is-of (h .spot))) f
 
 within : (K : List Spot) (f : Forest) → ((s : Spot) → T (inside same s (places f)) → T (inside same s K)) → Within K f
 within K leaf g = tt
 within K (node h k s) g = (
-  g (h .spot) (or-left (same (h .spot) (h .spot)) (inside same (h .spot) (places k ++ places s)) (same-exact (h .spot))),
+  let t = g (h .spot) (or-left (same (h .spot) (h .spot)) (inside same (h .spot) (places k ++ places s)) (same-exact (h .spot))) in
+      ((λ a. t), (λ a. t)),
   (
     within K k (λ a t. g a (or-right (same a (h .spot)) (inside same a (places k ++ places s))
         (inside-left same a (places k) (places s) t))),
@@ -420,32 +347,48 @@ told-few x ws h =
     let c = places-length x in
     omega (arith, a, b, c)
 
+begin : (p : Spot → Bool) → Keeps p start
+begin p = record { here = record { cant = tt; unbound = tt; entries = tt }; above = tt; out = record { here = tt; once = tt } }
+
+told-undefined : (p : Spot → Bool) (g : Option (ℕ → Bool)) (r : Chamber) (ws : List Warning) → In p r → Told p ws → Told p (undefined-room g r ws)
+told-undefined p none r ws i h = h
+told-undefined p (some given) r ws i h =
+    told-all p 5 (λ s. not (given (s .value))) (passed-room r) ws
+    (each-keep p (λ s. not (sets-name (s .value) (r .entries))) (r .unbound) (i .unbound)) h
+
+-- the list of a command: each at a spot that the walk meets, none twice
+told-tour : (p : Spot → Bool) (u : ℕ → Bool) (g : Option (ℕ → Bool)) (c : Cmd) → Of p c → Told p (names-tour u g c)
+told-tour p u g c o =
+    let m = tour u 0 c start in
+    let k = keeps-tour p u c 0 o start (begin p) in
+    told-undefined p g (m .here) (farewell-room u true (m .here) (m .out)) (k .here)
+    (told-farewell p u true (m .here) (m .out) (k .here) (k .out))
+
+each-told : (p : Spot → Bool) (ws : List Warning) → Each p (spots-of ws) → For-all (λ w. T (p (w .spot))) ws
+each-told p [] h = tt
+each-told p (w ∷ ws) h = (h .0, each-told p ws (h .1))
+
+-- NAMES: what holds of every spot that the walk meets holds of every warning's
+pub tour-hold : (p : Spot → Bool) (u : ℕ → Bool) (g : Option (ℕ → Bool)) (c : Cmd) → Of p c → For-all (λ w. T (p (w .spot))) (names-tour u g c)
+tour-hold p u g c o = each-told p (names-tour u g c) (told-tour p u g c o .here)
+
+pub names-hold : (p : Spot → Bool) (u is-fail : ℕ → Bool) (g : Option (ℕ → Bool)) (f : Forest) → Of p (body is-fail f)
+    → For-all (λ w. T (p (w .spot))) (names u is-fail g f)
+names-hold p u is-fail g f o =
+    subst (λ (ws : List Warning). For-all (λ w. T (p (w .spot))) ws) (tour-tree u is-fail g f) (tour-hold p u g (body is-fail f) o)
+
 module _ (u is-fail : ℕ → Bool) (x : Forest) where
   own : Of (is-of (places x)) (body is-fail x)
-  own = takes-of (places x) is-fail x (within (places x) x (λ s t. t)) (of-role 0)
-
-  begin : Keeps (is-of (places x)) start
-  begin = record { here = record { cant = tt; unbound = tt; entries = tt }; above = tt; out = record { here = tt; once = tt } }
+  own = takes-met (λ h. T (is-of (places x) (h .spot))) is-fail x (within (places x) x (λ s t. t)) (of-role 0)
 
   -- THE WARNINGS at every moment: at most one for each node
   pub out-nodes : Every u (λ m. length (m .out) ≤ nodes x) 0 (body is-fail x) start
   out-nodes =
       every-map u (Keeps (is-of (places x))) (λ m. length (m .out) ≤ nodes x) (λ m h. told-few x (m .out) (h .out)) (body is-fail x) 0 start
-      (keeps-every (is-of (places x)) u (body is-fail x) 0 own start begin)
-
-  told-undefined : (g : Option (ℕ → Bool)) (r : Chamber) (ws : List Warning) → In (is-of (places x)) r → Told (is-of (places x)) ws
-      → Told (is-of (places x)) (undefined-room g r ws)
-  told-undefined none r ws i h = h
-  told-undefined (some given) r ws i h =
-      told-all (is-of (places x)) 5 (λ s. not (given (s .value))) (passed-room r) ws
-      (each-keep (is-of (places x)) (λ s. not (sets-name (s .value) (r .entries))) (r .unbound) (i .unbound)) h
+      (keeps-every (is-of (places x)) u (body is-fail x) 0 own start (begin (is-of (places x))))
 
   -- NAMES: at most one record a node
   pub names-few : (g : Option (ℕ → Bool)) → length (names u is-fail g x) ≤ nodes x
   names-few g =
-      let m = tour u 0 (body is-fail x) start in
-      let k = keeps-tour (is-of (places x)) u (body is-fail x) 0 own start begin in
       subst (λ (ws : List Warning). length ws ≤ nodes x) (tour-tree u is-fail g x)
-      (told-few x (names-tour u g (body is-fail x))
-      (told-undefined g (m .here) (farewell-room u true (m .here) (m .out)) (k .here)
-      (told-farewell (is-of (places x)) u true (m .here) (m .out) (k .here) (k .out))))
+      (told-few x (names-tour u g (body is-fail x)) (told-tour (is-of (places x)) u g (body is-fail x) own))

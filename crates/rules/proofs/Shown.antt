@@ -1,6 +1,6 @@
 -- Demand 3's runs on small trees, each way of going on once: what they allow, what they don't, and what each premise keeps out;
 -- at last the demand of a file's bytes.
-use Prim.Native.Nat.{ℕ, _+_}
+use Prim.Native.Nat.{ℕ, _+_, _*_}
 use mathlib.Core.Path.{_≡_, refl, sym, ap, subst}
 use mathlib.Core.Bool.{Bool, true, false, not}
 use mathlib.Core.List.{List, [], _∷_, map, List·Memᴰ, List·Memᴰ·head, List·Memᴰ·tail, List·Memᴰ·not-nil}
@@ -10,7 +10,7 @@ use native.Mathlib.Omega.{arith}
 use lib.Dec.{eqb, T}
 use Rattle.tree.specs.Search.{first as first-of-places}
 use Rattle.tree.specs.Bytes.{u16At, u32At, nodeCount, valueCount, globalCount, kindAt, roleAt, sizeAt, beginAt, endAt, valueAt, lastAt}
-use Rattle.tree.specs.Forest.{Spot, Forest, Forest.none as leaf, node, spotAt, headAt, forestIn, forestOf, treeOf}
+use Rattle.tree.specs.Forest.{Head, Forest, Forest.none as leaf, node, spotAt, headAt, forestIn, forestOf, treeOf}
 use Rattle.tree.specs.Values.{offset, formed, precedes}
 use Rattle.tree.specs.Table.{tableOf, spells, wrong-value, wrong-global}
 use Rattle.tree.specs.Nodes.{parentIn, parentOf, limitOf, known, wrong-node, depthIn, depthOf, too-deep}
@@ -19,9 +19,9 @@ use Rattle.tree.specs.Judge.{checks, factsOf, judged}
 use Rattle.tree.specs.code.Shape.{valid, root-fits, fitting}
 use Rattle.tree.specs.declared.Judged.the-variants.{Valid}
 use Rattle.rules.specs.Order.{Stop, bare, fails, Cmd, _⨟_, stop, loop, of-role, binds, takes, body, def-body, fail-name}
-use Rattle.rules.specs.Names.{names, told, names-list}
+use Rattle.rules.specs.Names.{names, met, told, met-in, names-list}
 use Rattle.rules.specs.Flow.{flow}
-use Rattle.rules.specs.Record.{Rec, Span, no-span, named-at, plainly}
+use Rattle.rules.specs.Record.{Rec, Span, no-span, named-at, also-at, plainly}
 use Rattle.rules.specs.Runs.{at, below, beside, of-module, of-def, own, Held, nobody, hold, End, through, by, Run, skips, next, cut, uses, sets, breaking, returns, left, right, done, continues, out, apart, round, away, Reach, here, first, second, now, later, continued}
 use Rattle.rules.specs.Premises.{Premises, names-apart, jumps-in-loops}
 use Rattle.rules.specs.Letter.{Told, Demand3}
@@ -30,10 +30,10 @@ use Rattle.rules.proofs.Demand3.{demand3, demand3-more}
 use Rattle.rules.proofs.Whole.{the-demand}
 
 -- nothing after a break, a continue, a return or a call of fail is reached, and a call of fail never finishes
-pub nothing-after : {w : Stop} {b : Cmd} {s : Spot} {σ : Held} → Reach s (stop w ⨟ b) σ → ⊥
+pub nothing-after : {w : Stop} {b : Cmd} {h : Head} {σ : Held} → Reach h (stop w ⨟ b) σ → ⊥
 nothing-after (first r) = no-use r
   where
-    no-use : {w : Stop} {s : Spot} {σ : Held} → Reach s (stop w) σ → ⊥
+    no-use : {w : Stop} {h : Head} {σ : Held} → Reach h (stop w) σ → ⊥
     no-use = elim [ ]
 nothing-after (second r q) = no-run r
   where
@@ -43,12 +43,19 @@ nothing-after (second r q) = no-run r
 pub fail-never-finishes : {e : End} {σ τ : Held} → Run (stop fails) σ e τ → ⊥
 fail-never-finishes (returns t) = t
 
--- a node of a kind, role, span and value, its children, its later siblings
-abbrev n : ℕ → ℕ → ℕ → ℕ → ℕ → Forest → Forest → Forest
-n k r b e v kids more = node (record { kind = k; role = r; spot = record { begin = b; end = e; value = v } }) kids more
+-- a node of a kind, role, span and value, its children, its later siblings; its number tells kind and begin
+abbrev numbered : ℕ → ℕ → ℕ → ℕ → ℕ → ℕ → Head
+numbered i k r b e v = record { kind = k; role = r; spot = record { begin = b; end = e; value = v }; number = i }
 
-abbrev spot : ℕ → ℕ → ℕ → Spot
-spot b e v = record { begin = b; end = e; value = v }
+abbrev head : ℕ → ℕ → ℕ → ℕ → ℕ → Head
+head k r b e v = numbered (100 * k + b) k r b e v
+
+abbrev n : ℕ → ℕ → ℕ → ℕ → ℕ → Forest → Forest → Forest
+n k r b e v kids more = node (head k r b e v) kids more
+
+-- the identifier that print is called with
+abbrev used-a : ℕ → ℕ → ℕ → Head
+used-a b e v = head 20 0 b e v
 
 abbrev span : ℕ → ℕ → Span
 span b e = record { begin = b; end = e }
@@ -97,7 +104,7 @@ abbrev def-f : ℕ → ℕ → Forest → Forest → Forest
 def-f r b side more = n 12 r b (b + 50) 65535 (n 40 6 (b + 4) (b + 5) 2 leaf side) more
 
 abbrev warnings : Forest → List Rec
-warnings f = map told (names never is-fail none f)
+warnings f = map (told (met (body is-fail f))) (names never is-fail none f)
 
 abbrev findings : Forest → List Rec
 findings f = flow is-fail is-none never f
@@ -116,18 +123,18 @@ early-valid : T (valid early)
 unfolding valid root-fits fitting kids-fit all-stand all-filled many in-order in-pairs for-first classOf slotOf
 early-valid = tt
 
-early-reached : Reach (spot 6 7 0) (module-of early) nobody
+early-reached : Reach (used-a 6 7 0) (module-of early) nobody
 early-reached = first (first (first (first (second uses (first (here tt))))))
 
-early-told : Told (spot 6 7 0) (warnings early)
-early-told = theorem early early-valid (record { unlike = tt; looped = tt }) .unset of-module (spot 6 7 0) tt early-reached
+early-told : Told (used-a 6 7 0) (warnings early)
+early-told = theorem early early-valid (record { unlike = tt; looped = tt }) .unset of-module (used-a 6 7 0) tt early-reached
 
-early-list : warnings early ≡ named-at 4 (spot 6 7 0) ∷ []
+early-list : warnings early ≡ named-at 4 (used-a 6 7 0) ∷ []
 early-list = refl
 
 -- print(a), wherever it stands in a list, reaches its use of a
 printed : (b : ℕ) (more : Forest) {σ : Held} → T (not (σ 0))
-    → Reach (spot (b + 6) (b + 7) 0) (takes is-fail (of-role 0) (prints 0 b more)) σ
+    → Reach (used-a (b + 6) (b + 7) 0) (takes is-fail (of-role 0) (prints 0 b more)) σ
 printed b more t = first (first (first (second uses (first (here t)))))
 
 -- A LOOP RUNS NO TIME: for i in xs: a = 1; then print(a)
@@ -138,13 +145,13 @@ idle-valid : T (valid idle)
 unfolding valid root-fits fitting kids-fit all-stand all-filled many in-order in-pairs for-first classOf slotOf
 idle-valid = tt
 
-idle-reached : Reach (spot 66 67 0) (module-of idle) nobody
+idle-reached : Reach (used-a 66 67 0) (module-of idle) nobody
 idle-reached = first (second (next (next uses skips) done) (printed 60 leaf tt))
 
-idle-told : Told (spot 66 67 0) (warnings idle)
-idle-told = theorem idle idle-valid (record { unlike = tt; looped = tt }) .unset of-module (spot 66 67 0) tt idle-reached
+idle-told : Told (used-a 66 67 0) (warnings idle)
+idle-told = theorem idle idle-valid (record { unlike = tt; looped = tt }) .unset of-module (used-a 66 67 0) tt idle-reached
 
-idle-list : warnings idle ≡ named-at 6 (spot 66 67 0) ∷ []
+idle-list : warnings idle ≡ named-at 6 (used-a 66 67 0) ∷ []
 idle-list = refl
 
 -- A BREAK, A CONTINUE: for i in xs: (if c: break); a = 1; then print(a). The round that it cuts short sets i, and not a.
@@ -155,18 +162,18 @@ break-valid : T (valid (skipping 1))
 unfolding valid root-fits fitting kids-fit all-stand all-filled many in-order in-pairs for-first classOf slotOf
 break-valid = tt
 
-break-reached : Reach (spot 66 67 0) (module-of (skipping 1)) nobody
+break-reached : Reach (used-a 66 67 0) (module-of (skipping 1)) nobody
 break-reached = first (second (next (next uses skips) (out (next (next skips skips)
     (next (next sets skips) (cut (cut (next (next uses skips) (left (cut breaking)))))))))
     (printed 60 leaf tt))
 
-continue-reached : Reach (spot 66 67 0) (module-of (skipping 2)) nobody
+continue-reached : Reach (used-a 66 67 0) (module-of (skipping 2)) nobody
 continue-reached = first (second (next (next uses skips) (continues (next (next skips skips)
     (next (next sets skips) (cut (cut (next (next uses skips) (left (cut breaking))))))) done))
     (printed 60 leaf tt))
 
-break-told : Told (spot 66 67 0) (warnings (skipping 1))
-break-told = theorem (skipping 1) break-valid (record { unlike = tt; looped = tt }) .unset of-module (spot 66 67 0) tt break-reached
+break-told : Told (used-a 66 67 0) (warnings (skipping 1))
+break-told = theorem (skipping 1) break-valid (record { unlike = tt; looped = tt }) .unset of-module (used-a 66 67 0) tt break-reached
 
 -- A ROUND IS RUN: for i in xs: (if c: a = 1); then print(a). The round takes the side that sets no a.
 abbrev turned : Forest
@@ -176,13 +183,13 @@ turned-valid : T (valid turned)
 unfolding valid root-fits fitting kids-fit all-stand all-filled many in-order in-pairs for-first classOf slotOf
 turned-valid = tt
 
-turned-reached : Reach (spot 66 67 0) (module-of turned) nobody
+turned-reached : Reach (used-a 66 67 0) (module-of turned) nobody
 turned-reached = first (second (next (next uses skips) (round (next (next skips skips)
     (next (next sets skips) (next (next (next uses skips) (right skips)) skips))) done))
     (printed 60 leaf tt))
 
-turned-told : Told (spot 66 67 0) (warnings turned)
-turned-told = theorem turned turned-valid (record { unlike = tt; looped = tt }) .unset of-module (spot 66 67 0) tt turned-reached
+turned-told : Told (used-a 66 67 0) (warnings turned)
+turned-told = theorem turned turned-valid (record { unlike = tt; looped = tt }) .unset of-module (used-a 66 67 0) tt turned-reached
 
 -- ON A SIDE: if c: print(a); then a = 1
 abbrev aside : Forest
@@ -192,11 +199,11 @@ aside-valid : T (valid aside)
 unfolding valid root-fits fitting kids-fit all-stand all-filled many in-order in-pairs for-first classOf slotOf
 aside-valid = tt
 
-aside-reached : Reach (spot 12 13 0) (module-of aside) nobody
+aside-reached : Reach (used-a 12 13 0) (module-of aside) nobody
 aside-reached = first (first (second (next uses skips) (left (first (first (first (second uses (first (here tt)))))))))
 
-aside-told : Told (spot 12 13 0) (warnings aside)
-aside-told = theorem aside aside-valid (record { unlike = tt; looped = tt }) .unset of-module (spot 12 13 0) tt aside-reached
+aside-told : Told (used-a 12 13 0) (warnings aside)
+aside-told = theorem aside aside-valid (record { unlike = tt; looped = tt }) .unset of-module (used-a 12 13 0) tt aside-reached
 
 -- IN A ROUND: for i in xs: (if c: continue; else: print(a)); then a = 1. In the first round, or in one that follows another's end or
 -- its continue.
@@ -213,23 +220,23 @@ around-valid = tt
 abbrev one-round : Cmd
 one-round = takes is-fail (of-role 5) around-kids ⨟ binds 5 around-kids ⨟ takes is-fail (of-role 1) around-kids
 
-in-round : {σ : Held} → T (not (σ 0)) → Reach (spot 36 37 0) one-round σ
+in-round : {σ : Held} → T (not (σ 0)) → Reach (used-a 36 37 0) one-round σ
 in-round t = second (next skips skips) (second (next sets skips) (first (second (next uses skips) (right
     (first (first (first (second uses (first (here t))))))))))
 
-first-round : Reach (spot 36 37 0) (loop one-round) nobody
+first-round : Reach (used-a 36 37 0) (loop one-round) nobody
 first-round = now (in-round tt)
 
-next-round : Reach (spot 36 37 0) (loop one-round) nobody
+next-round : Reach (used-a 36 37 0) (loop one-round) nobody
 next-round = later (next (next skips skips) (next (next sets skips) (next (next (next uses skips) (right
     (next (next (next (next uses (next uses skips)) skips) skips) skips))) skips))) (now (in-round tt))
 
-after-continue : Reach (spot 36 37 0) (loop one-round) nobody
+after-continue : Reach (used-a 36 37 0) (loop one-round) nobody
 after-continue = continued (next (next skips skips) (next (next sets skips) (cut (next (next uses skips) (left (cut breaking))))))
     (now (in-round tt))
 
-around-told : Reach (spot 36 37 0) (loop one-round) nobody → Told (spot 36 37 0) (warnings around)
-around-told r = theorem around around-valid (record { unlike = tt; looped = tt }) .unset of-module (spot 36 37 0) tt
+around-told : Reach (used-a 36 37 0) (loop one-round) nobody → Told (used-a 36 37 0) (warnings around)
+around-told r = theorem around around-valid (record { unlike = tt; looped = tt }) .unset of-module (used-a 36 37 0) tt
     (first (first (second (next uses skips) r)))
 
 -- A DEF IN A LOOP: for i in xs: def f(): a += 1. Its target's name is a use before it is set.
@@ -240,9 +247,9 @@ nested-valid : T (valid nested)
 unfolding valid root-fits fitting kids-fit all-stand all-filled many in-order in-pairs for-first classOf slotOf
 nested-valid = tt
 
-nested-told : Told (spot 24 25 0) (warnings nested)
+nested-told : Told (head 40 5 24 25 0) (warnings nested)
 nested-told = theorem nested nested-valid (record { unlike = tt; looped = tt }) .unset (of-def (below (below (beside (beside at)))) refl)
-    (spot 24 25 0) tt
+    (head 40 5 24 25 0) tt
     (second skips (first (second (next skips skips) (second (next skips skips) (first (first (here tt)))))))
 
 -- A DEF'S END IS REACHED: def f(): if c: return 1
@@ -256,7 +263,7 @@ open-valid = tt
 open-run : Run (def-body is-fail (n 40 6 4 5 2 leaf (if-c 1 10 (returns-one 1 16 leaf) leaf))) nobody through nobody
 open-run = next skips (next (next (next uses skips) (right skips)) skips)
 
-open-found : List·Memᴰ (record { code = 8; spot = spot 0 50 2; second = span 16 24; third = no-span }) (findings open-end)
+open-found : List·Memᴰ (also-at 8 (head 12 0 0 50 65535) 2 (head 4 1 16 24 65535) no-span) (findings open-end)
 open-found = theorem open-end open-valid (record { unlike = tt; looped = tt }) .end (record {
   there = below at;
   def = refl;
@@ -272,10 +279,10 @@ unfolding valid root-fits fitting kids-fit all-stand all-filled many in-order in
 bare-valid = tt
 
 bare-run : Run (def-body is-fail (n 40 6 4 5 2 leaf (n 8 1 10 50 65535
-    (if-c 0 10 (bare-of 4 1 16 leaf) (returns-one 0 30 leaf)) leaf))) nobody (by (bare (spot 16 22 65535))) nobody
+    (if-c 0 10 (bare-of 4 1 16 leaf) (returns-one 0 30 leaf)) leaf))) nobody (by (bare (head 4 1 16 22 65535))) nobody
 bare-run = next skips (cut (cut (next (next uses skips) (left (cut (next skips (returns tt)))))))
 
-bare-found : List·Memᴰ (record { code = 7; spot = spot 16 22 2; second = span 0 50; third = span 30 38 }) (findings bare-end)
+bare-found : List·Memᴰ (also-at 7 (head 4 1 16 22 65535) 2 (head 12 0 0 50 65535) (span 30 38)) (findings bare-end)
 bare-found = theorem bare-end bare-valid (record { unlike = tt; looped = tt }) .bare-return (record {
   there = below at;
   def = refl;
@@ -293,11 +300,11 @@ leaving-valid : T (valid leaving)
 unfolding valid root-fits fitting kids-fit all-stand all-filled many in-order in-pairs for-first classOf slotOf
 leaving-valid = tt
 
-leaving-run : Run (def-body is-fail leaving-kids) nobody (by (bare (spot 24 30 65535))) (hold (spot 14 15 3) nobody)
+leaving-run : Run (def-body is-fail leaving-kids) nobody (by (bare (head 4 1 24 30 65535))) (hold (head 40 5 14 15 3) nobody)
 leaving-run = next skips (cut (cut (next (next uses skips) (away tt
     (next (next skips skips) (next (next sets skips) (cut (next skips (returns tt)))))))))
 
-leaving-found : List·Memᴰ (record { code = 7; spot = spot 24 30 2; second = span 0 80; third = span 70 78 }) (findings leaving)
+leaving-found : List·Memᴰ (also-at 7 (head 4 1 24 30 65535) 2 (head 12 0 0 80 65535) (span 70 78)) (findings leaving)
 leaving-found = theorem leaving leaving-valid (record { unlike = tt; looped = tt }) .bare-return (record {
   there = below at;
   def = refl;
@@ -324,7 +331,7 @@ shut-list : findings shut-end ≡ []
 shut-list = refl
 
 -- THE FIRST PREMISE: def f(a): pass; print(a); a = 1, where the parameter a has the span of the a that is printed.
--- The parameter is warned first, under 3, and so the use is under 3 alone.
+-- The parameter is warned first, under 3, and so the use is under 3 alone; the record has the parameter, which is met first.
 abbrev shared : Forest
 shared = list 0 (n 12 0 20 40 65535 (n 40 6 24 25 2 leaf (n 43 0 6 7 0 leaf (bare-of 3 1 34 leaf))) (prints 0 0 (assigns 0 50 leaf)))
 
@@ -332,17 +339,17 @@ shared-valid : T (valid shared)
 unfolding valid root-fits fitting kids-fit all-stand all-filled many in-order in-pairs for-first classOf slotOf
 shared-valid = tt
 
-shared-reached : Reach (spot 6 7 0) (module-of shared) nobody
+shared-reached : Reach (used-a 6 7 0) (module-of shared) nobody
 shared-reached = first (second (next (next skips skips) (next skips (next (next sets skips) apart))) (printed 0 (assigns 0 50 leaf) tt))
 
-shared-list : warnings shared ≡ named-at 3 (spot 6 7 0) ∷ []
+shared-list : warnings shared ≡ named-at 3 (head 43 0 6 7 0) ∷ []
 shared-list = refl
 
-not-three : (c : ℕ) → (c ≡ 3 → ⊥) → List·Memᴰ (named-at c (spot 6 7 0)) (warnings shared) → ⊥
+not-three : (c : ℕ) → (c ≡ 3 → ⊥) → List·Memᴰ (named-at c (used-a 6 7 0)) (warnings shared) → ⊥
 not-three c x (List·Memᴰ·head e) = x (ap (λ (w : Rec). w .code) e)
 not-three c x (List·Memᴰ·tail m) = List·Memᴰ·not-nil m
 
-shared-untold : Told (spot 6 7 0) (warnings shared) → ⊥
+shared-untold : Told (used-a 6 7 0) (warnings shared) → ⊥
 shared-untold (inl m) = not-three 4 (λ e. omega arith) m
 shared-untold (inr m) = not-three 6 (λ e. omega arith) m
 
@@ -361,15 +368,15 @@ astray-valid = tt
 astray-list : warnings (astray 1) ≡ []
 astray-list = refl
 
-astray-unreached : Reach (spot 46 47 0) (module-of (astray 1)) nobody → ⊥
+astray-unreached : Reach (used-a 46 47 0) (module-of (astray 1)) nobody → ⊥
 astray-unreached r = none-told (demand3-more is-fail never is-none never none (astray 1) astray-valid tt .unset of-module
-    (spot 46 47 0) tt r)
+    (used-a 46 47 0) tt r)
   where
-    none-told : Told (spot 46 47 0) [] → ⊥
+    none-told : Told (used-a 46 47 0) [] → ⊥
     none-told (inl m) = List·Memᴰ·not-nil m
     none-told (inr m) = List·Memᴰ·not-nil m
 
-passed-reached : Reach (spot 46 47 0) (module-of (astray 3)) nobody
+passed-reached : Reach (used-a 46 47 0) (module-of (astray 3)) nobody
 passed-reached = first (second (next (next uses skips) (left (next skips skips))) (printed 40 leaf tt))
 
 astray-premises : (names-apart (astray 1) ≡ true) × (jumps-in-loops (astray 1) ≡ false)
@@ -399,7 +406,7 @@ swapped =
     list 0
     (if-else-c 0 0 (n 8 2 6 18 65535 (bare-of 4 0 6 (bare-of 3 0 12 leaf)) (n 8 1 20 32 65535 (bare-of 4 0 20 (bare-of 3 0 26 leaf)) leaf)) leaf)
 
-swapped-list : findings swapped ≡ plainly 9 (spot 26 32 0) ∷ plainly 9 (spot 12 18 0) ∷ []
+swapped-list : findings swapped ≡ plainly 9 (head 3 0 26 32 65535) ∷ plainly 9 (head 3 0 12 18 65535) ∷ []
 swapped-list = refl
 
 -- A FILE'S BYTES: 01's for i in xs with print(a), a = 1 inside (Known). It is judged valid, its tree meets the premises, a run reaches
@@ -408,11 +415,18 @@ pub bytes-valid : judged looped-file ≡ Valid (record { nodes = 12; values = 5;
 unfolding judged checks factsOf first-of-places u16At u32At nodeCount valueCount globalCount kindAt roleAt sizeAt beginAt endAt valueAt lastAt spotAt headAt forestIn forestOf treeOf offset formed precedes wrong-value wrong-global parentIn parentOf limitOf known wrong-node depthIn depthOf too-deep classOf slotOf all-stand many all-filled in-pairs for-first in-order kids-fit rootOk wrong-children
 bytes-valid = refl
 
--- its tree, drawn
+-- its tree, drawn, each node with its number
+abbrev m : ℕ → ℕ → ℕ → ℕ → ℕ → ℕ → Forest → Forest → Forest
+m i k r b e v kids more = node (numbered i k r b e v) kids more
+
 abbrev drawn : Forest
-drawn = n 8 0 0 32 65535 (n 11 0 0 31 65535 (n 40 5 4 5 1 leaf (n 20 4 9 11 2 leaf (n 8 1 15 31 65535
-    (n 5 0 15 23 65535 (n 23 4 15 23 65535 (n 20 7 15 20 3 leaf (n 20 0 21 22 0 leaf leaf)) leaf)
-    (n 6 0 26 31 65535 (n 40 5 26 27 0 leaf (n 21 4 30 31 4 leaf leaf)) leaf)) leaf))) leaf) leaf
+drawn = m 0 8 0 0 32 65535 (m 1 11 0 0 31 65535 (m 2 40 5 4 5 1 leaf (m 3 20 4 9 11 2 leaf (m 4 8 1 15 31 65535
+    (m 5 5 0 15 23 65535 (m 6 23 4 15 23 65535 (m 7 20 7 15 20 3 leaf (m 8 20 0 21 22 0 leaf leaf)) leaf)
+    (m 9 6 0 26 31 65535 (m 10 40 5 26 27 0 leaf (m 11 21 4 30 31 4 leaf leaf)) leaf)) leaf))) leaf) leaf
+
+-- the use of a in it
+abbrev printed-a : Head
+printed-a = numbered 8 20 0 21 22 0
 
 bytes-tree : treeOf looped-file ≡ drawn
 unfolding u16At u32At nodeCount valueCount kindAt roleAt sizeAt beginAt endAt valueAt spotAt headAt forestIn forestOf treeOf
@@ -422,7 +436,7 @@ pub bytes-premises : Premises (treeOf looped-file)
 bytes-premises = subst Premises (sym bytes-tree) (record { unlike = tt; looped = tt })
 
 -- whatever fail is
-drawn-reached : (p : ℕ → Bool) → Reach (spot 21 22 0) (body p drawn) nobody
+drawn-reached : (p : ℕ → Bool) → Reach printed-a (body p drawn) nobody
 drawn-reached p = first (first (second (next uses skips) (now (second (next skips skips) (second (next sets skips)
     (first (first (first (first (second uses (first (here tt))))))))))))
 
@@ -430,18 +444,18 @@ drawn-own : T (own 0 (body (spells (tableOf looped-file) fail-name) drawn))
 unfolding u16At nodeCount valueCount
 drawn-own = tt
 
-pub bytes-reached : Reach (spot 21 22 0) (body (spells (tableOf looped-file) fail-name) (treeOf looped-file)) nobody
-bytes-reached = subst (λ (f : Forest). Reach (spot 21 22 0) (body (spells (tableOf looped-file) fail-name) f) nobody) (sym bytes-tree)
+pub bytes-reached : Reach printed-a (body (spells (tableOf looped-file) fail-name) (treeOf looped-file)) nobody
+bytes-reached = subst (λ (f : Forest). Reach printed-a (body (spells (tableOf looped-file) fail-name) f) nobody) (sym bytes-tree)
     (drawn-reached (spells (tableOf looped-file) fail-name))
 
 bytes-own : T (own 0 (body (spells (tableOf looped-file) fail-name) (treeOf looped-file)))
 bytes-own = subst (λ (f : Forest). T (own 0 (body (spells (tableOf looped-file) fail-name) f))) (sym bytes-tree)
     drawn-own
 
-pub bytes-told : Told (spot 21 22 0) (names-list looped-file)
+pub bytes-told : Told printed-a (names-list looped-file)
 bytes-told = the-demand looped-file (record { nodes = 12; values = 5; names = 4; globals = 65535; rest = 228 }) bytes-valid bytes-premises
-    .unset of-module (spot 21 22 0) bytes-own bytes-reached
+    .unset of-module printed-a bytes-own bytes-reached
 
-pub bytes-list : names-list looped-file ≡ named-at 6 (spot 21 22 0) ∷ []
-unfolding u16At u32At nodeCount valueCount kindAt roleAt sizeAt beginAt endAt valueAt spotAt headAt forestIn forestOf treeOf globalCount offset names-list
+pub bytes-list : names-list looped-file ≡ named-at 6 printed-a ∷ []
+unfolding u16At u32At nodeCount valueCount kindAt roleAt sizeAt beginAt endAt valueAt spotAt headAt forestIn forestOf treeOf globalCount offset met-in names-list
 bytes-list = refl

@@ -117,8 +117,8 @@ own-inn s l (node h k r) = add-assoc-le (own s l (node h k r) + inn s l (node h 
 abbrev pub Use : Spot → Cmd → Type 0
 Use s skip = ⊥
 Use s (a ⨟ b) = Use s a ⊎ Use s b
-Use s (use-of t) = T (same s t)
-Use s (set-of o t) = ⊥
+Use s (use-of h) = T (same s (h .spot))
+Use s (set-of o h) = ⊥
 Use s (stop w) = ⊥
 Use s (branch a b) = Use s a ⊎ Use s b
 Use s (loop c) = Use s c
@@ -137,8 +137,8 @@ no-Use s true X Y f g (inr p) = g p
 abbrev pub AnySet : Spot → Cmd → Type 0
 AnySet s skip = ⊥
 AnySet s (a ⨟ b) = AnySet s a ⊎ AnySet s b
-AnySet s (use-of t) = ⊥
-AnySet s (set-of o t) = T (same s t)
+AnySet s (use-of h) = ⊥
+AnySet s (set-of o h) = T (same s (h .spot))
 AnySet s (stop w) = ⊥
 AnySet s (branch a b) = AnySet s a ⊎ AnySet s b
 AnySet s (loop c) = AnySet s c
@@ -158,8 +158,8 @@ no-AnySet s true X Y f g (inr p) = g p
 abbrev pub Inner : Spot → Cmd → Type 0
 Inner s skip = ⊥
 Inner s (a ⨟ b) = Inner s a ⊎ Inner s b
-Inner s (use-of t) = ⊥
-Inner s (set-of o t) = ⊥
+Inner s (use-of h) = ⊥
+Inner s (set-of o h) = ⊥
 Inner s (stop w) = ⊥
 Inner s (branch a b) = Inner s a ⊎ Inner s b
 Inner s (loop c) = Inner s c

@@ -264,15 +264,15 @@ distinct-le s [] t = omega arith
 distinct-le s (p ∷ ps) t = hit-step (same s p) (occ s ps) (distinct-le s ps (and-right (not (among p ps)) (distinct ps) t))
     (λ u. occ-none s p ps u (and-left (not (among p ps)) (distinct ps) t))
 
-unique-of : (f : Forest) → T (names-apart f) → Unique f
+pub unique-of : (f : Forest) → T (names-apart f) → Unique f
 unique-of f t s = let a = distinct-le s (name-spots f) t in let b = count-le s f in omega arith
 
 -- DEMAND 3, the names half, of a valid tree in which no two nodes that hold a name share span and name:
 -- a use of one of its own names that a run of a body reaches unset is in the names list under 4 or 6.
 pub names-demand : (is-fail underscore : ℕ → Bool) (globals : Option (ℕ → Bool)) (f : Forest) → T (valid f) → T (names-apart f)
-    → {b : Cmd} → Body is-fail f b → (s : Spot) → Reach s b nobody → T (own (s .value) b) → T (good s (names underscore is-fail globals f))
-names-demand is-fail underscore globals f v u of-module s r w =
-    module-uses is-fail underscore globals f s (shaped-of f (valid-fits f v)) (unique-of f u) r w
-names-demand is-fail underscore globals f v u (of-def {h = h} {k = k} n e) s r w =
-    def-uses is-fail underscore globals f h k s (roots-of f (valid-root f v))
+    → {b : Cmd} → Body is-fail f b → (g : Head) → Reach g b nobody → T (own (g .spot .value) b) → T (good (g .spot) (names underscore is-fail globals f))
+names-demand is-fail underscore globals f v u of-module g r w =
+    module-uses is-fail underscore globals f g (shaped-of f (valid-fits f v)) (unique-of f u) r w
+names-demand is-fail underscore globals f v u (of-def {h = h} {k = k} n e) g r w =
+    def-uses is-fail underscore globals f h k g (roots-of f (valid-root f v))
     (placed-of f (valid-fits f v)) (shaped-of f (valid-fits f v)) (unique-of f u) n e r w

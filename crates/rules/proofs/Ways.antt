@@ -49,10 +49,10 @@ j-skip j d = record { end = omega arith; on = omega arith }
 j-stop : (j d : ℕ) (w : Stop) → J j d (stop w) 0
 j-stop j d w = record { end = omega arith; on = omega arith }
 
-j-set : (j d : ℕ) (o : Sort) (s : Spot) → J j d (set-of o s) 0
+j-set : (j d : ℕ) (o : Sort) (s : Head) → J j d (set-of o s) 0
 j-set j d o s = record { end = omega arith; on = omega arith }
 
-j-use : (j d : ℕ) (s : Spot) → J j d (use-of s) 1
+j-use : (j d : ℕ) (s : Head) → J j d (use-of s) 1
 j-use j d s = let t = times-le j 1 in record { end = omega arith; on = omega arith }
 
 j-seq : {j d : ℕ} {a b : Cmd} {m n : ℕ} → J j d a m → J j d b n → J j d (a ⨟ b) (m + n)
@@ -135,7 +135,7 @@ modified-le Form.plain n = omega arith
 
 -- what binds sets, and uses nothing
 bind-none : (j d : ℕ) (z : Bind) (h : Head) (down : ℕ → Cmd) → J j d (down 0) 0 → J j d (bind-part z h down) 0
-bind-none j d (one o) h down p = j-set j d o (h .spot)
+bind-none j d (one o) h down p = j-set j d o h
 bind-none j d several h down p = p
 bind-none j d nothing h down p = j-skip j d
 
@@ -181,7 +181,7 @@ module _ (is-fail : ℕ → Bool) where
       → J j d (part is-fail y h k (λ v. takes is-fail v k)) (suc (nodes k))
   part-le Form.breaking h k c d j p = j-more (suc (nodes k)) (j-stop j d (breaks (broken-by h))) (omega arith)
   part-le Form.returning h k c d j p = let r = roles-le (4 ∷ []) (tt, tt) k in
-      j-more (suc (nodes k)) (j-seq (down c d j p 4) (j-stop j d (cond (has 4 k) valued (bare (h .spot))))) (omega arith)
+      j-more (suc (nodes k)) (j-seq (down c d j p 4) (j-stop j d (cond (has 4 k) valued (bare h)))) (omega arith)
   part-le Form.expression h k c d j p = let r = roles-le (4 ∷ []) (tt, tt) k in
       j-more (suc (nodes k)) (j-seq (down c d j p 4) (either-none j d (fail-called is-fail k) fails)) (omega arith)
   part-le Form.assign h k c d j p = let r = roles-le (3 ∷ 4 ∷ 5 ∷ []) (tt, (tt, (tt, tt))) k in
@@ -201,7 +201,7 @@ module _ (is-fail : ℕ → Bool) where
       j-more (suc (nodes k)) (j-seq (down c d j p 0) (j-seq (down c d j p 3)
       (j-seq (binds-none j d 6 k) (j-scope (j-seq (binds-none j d 0 k) (down c d j p 1)))))) (omega arith)
   part-le Form.load h k c d j p = j-more (suc (nodes k)) (binds-none j d 0 k) (omega arith)
-  part-le Form.identifier h k c d j p = j-more (suc (nodes k)) (j-use j d (h .spot)) (omega arith)
+  part-le Form.identifier h k c d j p = j-more (suc (nodes k)) (j-use j d h) (omega arith)
   part-le Form.lambda h k c d j p = let r = roles-le (0 ∷ 1 ∷ []) (tt, (tt, tt)) k in
       j-more (suc (nodes k)) (j-seq (down c d j p 0) (j-scope (j-seq (binds-none j d 0 k) (down c d j p 1)))) (omega arith)
   part-le Form.comprehension h k c d j p = let r = roles-le (0 ∷ 8 ∷ 4 ∷ []) (tt, (tt, (tt, tt))) k in let b = c .firsts d j p in let e =
@@ -214,8 +214,8 @@ module _ (is-fail : ℕ → Bool) where
       → Both j d (part is-fail y h k (λ v. takes is-fail v k)) (use-part z h (λ v. uses v k)) (suc (nodes k))
   own-le nothing y h k l c d j p = record { x = suc (nodes k); y = 0; fst = part-le y h k c d j p; snd = j-skip j d; fit = omega arith }
   own-le (one o) y h k l c d j p = let m = modified-le y (modifies k) in let b = c .all d j (omega arith) in let e = b .fit in
-      subst (λ (v : Form). Both j d (part is-fail v h k (λ v. takes is-fail v k)) (use-of (h .spot)) (suc (nodes k))) (sym l)
-      (record { x = b .x; y = 1; fst = b .fst; snd = j-use j d (h .spot); fit = omega arith })
+      subst (λ (v : Form). Both j d (part is-fail v h k (λ v. takes is-fail v k)) (use-of h) (suc (nodes k))) (sym l)
+      (record { x = b .x; y = 1; fst = b .fst; snd = j-use j d h; fit = omega arith })
   own-le several y h k l c d j p = let m = modified-le y (modifies k) in let b = c .all d j (omega arith) in let e = b .fit in
       subst (λ (v : Form). Both j d (part is-fail v h k (λ v. takes is-fail v k)) (uses 0 k) (suc (nodes k))) (sym l)
       (record { x = b .x; y = b .y; fst = b .fst; snd = b .snd; fit = omega arith })

@@ -12,7 +12,7 @@ use Rattle.rules.specs.declared.Refusal.{Refusal}
 use Rattle.rules.specs.declared.Outcome.the-variants.{Listed, Refused}
 use Rattle.rules.specs.declared.Answer.{Answer}
 
--- "Record, eight u32": the record that the first eight words are
+-- the record that the first ten words are
 abbrev pub record-in : List ℕ → Rec
 record-in o =
     record {
@@ -20,6 +20,8 @@ record-in o =
       spot = record { begin = getD o 1 0; end = getD o 2 0; value = getD o 3 0 };
       second = record { begin = getD o 4 0; end = getD o 5 0 };
       third = record { begin = getD o 6 0; end = getD o 7 0 };
+      number = getD o 8 0;
+      number2 = getD o 9 0;
     }
 
 -- the first n records of the answer room
@@ -31,8 +33,8 @@ records-in (suc n) o = record-in o ∷ records-in n (drop width o)
 abbrev pub Gives : Done-with-work → Answer → List ℕ → List ℕ → Type 0
 Gives d a room work = record { answer = a; room = room; work = work } ≡ d
 
--- The list rs of the file t: 01's table gives no refusal; the list stands in the answer room, in its order; the counts are raised by it; "answer room past the last record"
--- stays; "the first 32,768 words of work room are zero".
+-- The list rs of the file t: 01's table, with 02's ten words a record, gives no refusal; the list stands in the answer room, in its order;
+-- the counts are raised by it; "answer room past the last record" stays; "the first 32,768 words of work room are zero".
 pub record Lists (rs : List Rec) (t tally work room : List ℕ) (a : Answer) (room′ work′ : List ℕ) : Type 0 where
   pub none-given : refusal (checks-with-work rs t work room) ≡ none
   pub outcome : a .outcome ≡ Listed (length rs)
@@ -42,7 +44,8 @@ pub record Lists (rs : List Rec) (t tally work room : List ℕ) (a : Answer) (ro
   pub as-long : length room′ ≡ length room
   pub cleared-work : work′ ≡ cleared work
 
--- One numbered refusal, the one that 01's table gives for the file t with the list rs: "A refusal writes no answer; its tally is all zero", and the work room is as 01 says.
+-- One numbered refusal, the one that this table gives for the file t with the list rs: "A refusal writes no answer; its tally is all
+-- zero", and the work room is as 01 says.
 pub record Refuses (rs : List Rec) (t : List ℕ) (why : Refusal) (work room : List ℕ) (a : Answer) (room′ work′ : List ℕ) : Type 0 where
   pub given : refusal (checks-with-work rs t work room) ≡ some why
   pub outcome : a .outcome ≡ Refused why

@@ -1,5 +1,6 @@
 -- More files with their lists, beside the starred ones (Known): every code that those don't show, the five loops that are taken twice,
--- 01's 47 bytes, and each limit at its number and one past it. Assumes nothing.
+-- 01's 47 bytes, both reasons of 02, §11, nodes that share span and name (02, §4), and each limit at its number and one past it.
+-- Assumes nothing.
 use Prim.Native.Nat.{ℕ, zero, suc}
 use mathlib.Core.Bool.{Bool, true, _&&_}
 use mathlib.Core.List.{List, [], _∷_, _++_, map}
@@ -340,33 +341,88 @@ six-loops =
     ∷ value-of 3 (0x01 ∷ [])
     ∷ [])
 
+-- Three files in which nodes share span and name, and the walk's order is not the file's.
+
+-- x = x: the target (node 1) and the value (node 2), which is met first, share their span
+-- (values: x)
+abbrev pub value-first : List ℕ
+value-first =
+    file
+    (node-of 6 0 3 0 1 65535
+    ∷ node-of 40 5 1 0 1 0
+    ∷ node-of 20 4 1 0 1 0
+    ∷ [])
+    (value-of 0 (0x78 ∷ [])
+    ∷ [])
+
+-- def f(x=x):
+--     pass
+-- the parameter (node 2) and its default (node 3), which is met first, share their span
+-- (values: f, x)
+abbrev pub default-first : List ℕ
+default-first =
+    file
+    (node-of 12 0 5 0 18 65535
+    ∷ node-of 40 6 1 4 5 0
+    ∷ node-of 43 0 2 6 7 1
+    ∷ node-of 20 0 1 6 7 1
+    ∷ node-of 3 1 1 14 18 65535
+    ∷ [])
+    (value-of 0 (0x66 ∷ [])
+    ∷ value-of 0 (0x78 ∷ [])
+    ∷ [])
+
+-- [lambda x: 0 for x in xs]: the result's parameter (node 3) and the target (node 6), which is met first, share their span
+-- (values: x, xs, 0)
+abbrev pub result-last : List ℕ
+result-last =
+    file
+    (node-of 5 0 8 0 25 65535
+    ∷ node-of 25 4 7 0 25 65535
+    ∷ node-of 24 4 3 1 12 65535
+    ∷ node-of 43 0 1 8 9 0
+    ∷ node-of 21 1 1 11 12 2
+    ∷ node-of 45 0 3 13 24 65535
+    ∷ node-of 40 5 1 8 9 0
+    ∷ node-of 20 4 1 22 24 1
+    ∷ [])
+    (value-of 0 (0x78 ∷ [])
+    ∷ value-of 0 (0x78 ∷ 0x73 ∷ [])
+    ∷ value-of 3 []
+    ∷ [])
+
 -- ---- the lists
 
--- "13 0 1 65535 0 0 0 0"; codes 1, 3, 4, 5, 7, 10, 11, 12, 14 and 17, one each; 02, §11: the same form (1), the same number in two forms (2),
--- and then 1 again, since it is the previous equal key that the later one is held against;
+-- "13 0 1 65535 0 0 0 0", and 02, §4: "01's example line ends in the literal's node 1 and 65535"; codes 1, 3, 4, 5, 7, 10, 11, 12, 14 and
+-- 17, one each; 02, §11: the same form (1), the same number in two forms (2), and then 1 again, since it is the previous equal key that
+-- the later one is held against;
 -- "twice while the count of enclosing for statements (itself counted, through defs too) is at most 5, once from 6": the for in the def is the
--- fifth, and its second round finds a set in the first (6); it is the sixth, and its one round finds no a (4)
+-- fifth, and its second round finds a set in the first (6); it is the sixth, and its one round finds no a (4);
+-- 02, §4: "the one that the names walk meets first", where the file's first is node 1, 2 and 3
 abbrev pub examples : List Row
 examples =
-    always (file one-literal value-one) (13 ∷ 0 ∷ 1 ∷ 65535 ∷ 0 ∷ 0 ∷ 0 ∷ 0 ∷ [])
-    ∷ always (file-given [] one-literal value-one) (13 ∷ 0 ∷ 1 ∷ 65535 ∷ 0 ∷ 0 ∷ 0 ∷ 0 ∷ [])
-    ∷ always unused-load (1 ∷ 19 ∷ 29 ∷ 0 ∷ 0 ∷ 0 ∷ 0 ∷ 0 ∷ [])
-    ∷ always unused-argument (3 ∷ 6 ∷ 7 ∷ 1 ∷ 0 ∷ 0 ∷ 0 ∷ 0 ∷ [])
-    ∷ always using-unassigned (4 ∷ 6 ∷ 7 ∷ 0 ∷ 0 ∷ 0 ∷ 0 ∷ 0 ∷ [])
-    ∷ always using-undefined (5 ∷ 23 ∷ 24 ∷ 0 ∷ 0 ∷ 0 ∷ 0 ∷ 0 ∷ [])
-    ∷ always missing-return-expression (7 ∷ 28 ∷ 34 ∷ 1 ∷ 0 ∷ 47 ∷ 39 ∷ 47 ∷ [])
-    ∷ always redundant-return (10 ∷ 13 ∷ 19 ∷ 65535 ∷ 0 ∷ 0 ∷ 0 ∷ 0 ∷ [])
-    ∷ always redundant-continue (11 ∷ 17 ∷ 25 ∷ 65535 ∷ 0 ∷ 0 ∷ 0 ∷ 0 ∷ [])
-    ∷ always misplaced-load (12 ∷ 8 ∷ 38 ∷ 65535 ∷ 0 ∷ 0 ∷ 0 ∷ 0 ∷ [])
-    ∷ always incompatible-type-check (14 ∷ 6 ∷ 20 ∷ 1 ∷ 0 ∷ 0 ∷ 0 ∷ 0 ∷ [])
-    ∷ always ident-as-statement (17 ∷ 0 ∷ 1 ∷ 0 ∷ 0 ∷ 0 ∷ 0 ∷ 0 ∷ [])
+    always (file one-literal value-one) (13 ∷ 0 ∷ 1 ∷ 65535 ∷ 0 ∷ 0 ∷ 0 ∷ 0 ∷ 1 ∷ 65535 ∷ [])
+    ∷ always (file-given [] one-literal value-one) (13 ∷ 0 ∷ 1 ∷ 65535 ∷ 0 ∷ 0 ∷ 0 ∷ 0 ∷ 1 ∷ 65535 ∷ [])
+    ∷ always unused-load (1 ∷ 19 ∷ 29 ∷ 0 ∷ 0 ∷ 0 ∷ 0 ∷ 0 ∷ 1 ∷ 65535 ∷ [])
+    ∷ always unused-argument (3 ∷ 6 ∷ 7 ∷ 1 ∷ 0 ∷ 0 ∷ 0 ∷ 0 ∷ 2 ∷ 65535 ∷ [])
+    ∷ always using-unassigned (4 ∷ 6 ∷ 7 ∷ 0 ∷ 0 ∷ 0 ∷ 0 ∷ 0 ∷ 4 ∷ 65535 ∷ [])
+    ∷ always using-undefined (5 ∷ 23 ∷ 24 ∷ 0 ∷ 0 ∷ 0 ∷ 0 ∷ 0 ∷ 3 ∷ 65535 ∷ [])
+    ∷ always missing-return-expression (7 ∷ 28 ∷ 34 ∷ 1 ∷ 0 ∷ 47 ∷ 39 ∷ 47 ∷ 6 ∷ 0 ∷ [])
+    ∷ always redundant-return (10 ∷ 13 ∷ 19 ∷ 65535 ∷ 0 ∷ 0 ∷ 0 ∷ 0 ∷ 3 ∷ 65535 ∷ [])
+    ∷ always redundant-continue (11 ∷ 17 ∷ 25 ∷ 65535 ∷ 0 ∷ 0 ∷ 0 ∷ 0 ∷ 4 ∷ 65535 ∷ [])
+    ∷ always misplaced-load (12 ∷ 8 ∷ 38 ∷ 65535 ∷ 0 ∷ 0 ∷ 0 ∷ 0 ∷ 4 ∷ 65535 ∷ [])
+    ∷ always incompatible-type-check (14 ∷ 6 ∷ 20 ∷ 1 ∷ 0 ∷ 0 ∷ 0 ∷ 0 ∷ 3 ∷ 65535 ∷ [])
+    ∷ always ident-as-statement (17 ∷ 0 ∷ 1 ∷ 0 ∷ 0 ∷ 0 ∷ 0 ∷ 0 ∷ 1 ∷ 65535 ∷ [])
     ∷ always two-reasons
-    (16 ∷ 5 ∷ 6 ∷ 1 ∷ 11 ∷ 12 ∷ 1 ∷ 0
-    ∷ 16 ∷ 17 ∷ 18 ∷ 4 ∷ 23 ∷ 26 ∷ 2 ∷ 0
-    ∷ 16 ∷ 23 ∷ 26 ∷ 4 ∷ 31 ∷ 34 ∷ 1 ∷ 0
+    (16 ∷ 5 ∷ 6 ∷ 1 ∷ 11 ∷ 12 ∷ 1 ∷ 0 ∷ 3 ∷ 5
+    ∷ 16 ∷ 17 ∷ 18 ∷ 4 ∷ 23 ∷ 26 ∷ 2 ∷ 0 ∷ 7 ∷ 9
+    ∷ 16 ∷ 23 ∷ 26 ∷ 4 ∷ 31 ∷ 34 ∷ 1 ∷ 0 ∷ 9 ∷ 11
     ∷ [])
-    ∷ always five-loops (6 ∷ 122 ∷ 123 ∷ 1 ∷ 0 ∷ 0 ∷ 0 ∷ 0 ∷ [])
-    ∷ always six-loops (4 ∷ 149 ∷ 150 ∷ 1 ∷ 0 ∷ 0 ∷ 0 ∷ 0 ∷ [])
+    ∷ always five-loops (6 ∷ 122 ∷ 123 ∷ 1 ∷ 0 ∷ 0 ∷ 0 ∷ 0 ∷ 21 ∷ 65535 ∷ [])
+    ∷ always six-loops (4 ∷ 149 ∷ 150 ∷ 1 ∷ 0 ∷ 0 ∷ 0 ∷ 0 ∷ 24 ∷ 65535 ∷ [])
+    ∷ always value-first (4 ∷ 0 ∷ 1 ∷ 0 ∷ 0 ∷ 0 ∷ 0 ∷ 0 ∷ 2 ∷ 65535 ∷ [])
+    ∷ always default-first (3 ∷ 6 ∷ 7 ∷ 1 ∷ 0 ∷ 0 ∷ 0 ∷ 0 ∷ 3 ∷ 65535 ∷ [])
+    ∷ always result-last (3 ∷ 8 ∷ 9 ∷ 0 ∷ 0 ∷ 0 ∷ 0 ∷ 0 ∷ 6 ∷ 65535 ∷ [])
     ∷ []
 
 -- ---- the limits

@@ -9,14 +9,14 @@ use lib.Dec.{eqb}
 use Rattle.tree.specs.Bytes.{ascii}
 use Rattle.tree.specs.Forest.{Spot, Head, Forest, Forest.none as leaf, node, treeOf}
 use Rattle.tree.specs.Table.{tableOf, spells, a-string}
-use Rattle.rules.specs.Record.{Rec, no-span, span-of, with-value, plainly, listed, or-else}
-use Rattle.rules.specs.Visit.{look, each, has, spot-at, last-of}
+use Rattle.rules.specs.Record.{Rec, no-span, span-of, plainly, also-at, listed, or-else}
+use Rattle.rules.specs.Visit.{look, each, has, head-at, spot-at, last-of}
 use Rattle.rules.specs.Order.{fail-called, fail-name}
 
 -- ---- returns: 8 and 7
 
 pub record Return : Type 0 where
-  pub spot : Spot
+  pub head : Head
   pub valued : Bool
 
 -- which children: every one, a def's body, or what is not its body
@@ -32,29 +32,29 @@ wanted the-rest r = not (eqb 1 r)
 -- statement in it.)
 abbrev pub returns-part : ℕ → Head → Forest → (Which → List Return) → List Return
 returns-part n h k down =
-    look n ((4, record { spot = h .spot; valued = has 4 k } ∷ down everything) ∷ (12, down the-rest) ∷ []) (down everything)
+    look n ((4, record { head = h; valued = has 4 k } ∷ down everything) ∷ (12, down the-rest) ∷ []) (down everything)
 
 abbrev pub returns : Which → Forest → List Return
 returns w leaf = []
 returns w (node h k s) = listed (wanted w (h .role)) (returns-part (h .kind) h k (λ v. returns v k)) (returns w s)
 
-abbrev pub first-valued : List Return → Option Spot
+abbrev pub first-valued : List Return → Option Head
 first-valued [] = none
-first-valued (r ∷ rs) = elim (r .valued) [ true ↦ some (r .spot) | false ↦ first-valued rs ]
+first-valued (r ∷ rs) = elim (r .valued) [ true ↦ some (r .head) | false ↦ first-valued rs ]
 
 module _ (is-none : ℕ → Bool) where
   -- "a return type other than the identifier None"
-  abbrev pub type-reason : Forest → Option Spot
+  abbrev pub type-reason : Forest → Option Head
   type-reason leaf = none
   type-reason (node h k s) =
       elim (eqb 3 (h .role)) [
         | false ↦ type-reason s
-        | true ↦ cond (eqb 20 (h .kind) && is-none (h .spot .value)) none (some (h .spot))
+        | true ↦ cond (eqb 20 (h .kind) && is-none (h .spot .value)) none (some h)
       ]
 
   -- "A def wants a value if it has a return type other than the identifier None, else if some return outside nested defs
   -- has an expression; the type, or the first such return, is the reason."
-  abbrev pub reason : Forest → Option Spot
+  abbrev pub reason : Forest → Option Head
   reason k = or-else (type-reason k) (first-valued (returns the-body k))
 
 module _ (is-fail : ℕ → Bool) where
@@ -66,23 +66,21 @@ module _ (is-fail : ℕ → Bool) where
   ends r leaf = false
   ends r (node h k s) = last-of (eqb r (h .role)) (has r s) (ends-part (h .kind) k (λ v. ends v k)) (ends r s)
 
--- "8 missing return (reason second; value likewise)"
-abbrev pub missing : Head → Spot → Spot → Rec
-missing h name why =
-    record { code = 8; spot = with-value (h .spot) (name .value); second = span-of why; third = no-span }
+-- "8 missing return (reason second; value likewise)": h the def, why the reason
+abbrev pub missing : Head → Spot → Head → Rec
+missing h name why = also-at 8 h (name .value) why no-span
 
--- "7 missing return expression (def, then reason, as second and third span; value the def's name)"
-abbrev pub missing-expression : Head → Spot → Spot → Spot → Rec
-missing-expression h name why t =
-    record { code = 7; spot = with-value t (name .value); second = span-of (h .spot); third = span-of why }
+-- "7 missing return expression (def, then reason, as second and third span; value the def's name)": g the bare return
+abbrev pub missing-expression : Head → Spot → Head → Head → Rec
+missing-expression h name why g = also-at 7 g (name .value) h (span-of (why .spot))
 
-abbrev pub bare-recs : Head → Spot → Spot → List Return → List Rec
+abbrev pub bare-recs : Head → Spot → Head → List Return → List Rec
 bare-recs h name why [] = []
-bare-recs h name why (r ∷ rs) = listed (not (r .valued)) (missing-expression h name why (r .spot) ∷ []) (bare-recs h name why rs)
+bare-recs h name why (r ∷ rs) = listed (not (r .valued)) (missing-expression h name why (r .head) ∷ []) (bare-recs h name why rs)
 
 module _ (is-fail is-none : ℕ → Bool) where
   -- "Then 8 at the def unless the body ends surely .., then 7 for each bare return outside nested defs."
-  abbrev pub check-for : Head → Forest → Option Spot → List Rec
+  abbrev pub check-for : Head → Forest → Option Head → List Rec
   check-for h k none = []
   check-for h k (some why) =
       listed (not (ends is-fail 1 k)) (missing h (spot-at 6 k) why ∷ []) (bare-recs h (spot-at 6 k) why (returns the-body k))
@@ -117,7 +115,7 @@ stopping b = record { stops = b; recs = [] }
 -- "Only the first statement after an aborting one is reported; it and the list's rest aren't walked."
 abbrev pub after-stop : Forest → List Rec
 after-stop leaf = []
-after-stop (node h k s) = plainly 9 (h .spot) ∷ []
+after-stop (node h k s) = plainly 9 h ∷ []
 
 module _ (is-fail : ℕ → Bool) where
   -- "Break, continue, return and a fail statement abort; so does a list once a member does, and an if-else whose sides both do."
@@ -144,7 +142,7 @@ module _ (is-fail : ℕ → Bool) where
 -- loops: whether the body is a for's
 abbrev pub tail-part : ℕ → Bool → Head → Forest → (ℕ → List Rec) → List Rec
 tail-part n loops h k down =
-    look n ((2, listed loops (plainly 11 (h .spot) ∷ []) []) ∷ (4, listed (not loops && not (has 4 k)) (plainly 10 (h .spot) ∷ []) [])
+    look n ((2, listed loops (plainly 11 h ∷ []) []) ∷ (4, listed (not loops && not (has 4 k)) (plainly 10 h ∷ []) [])
     ∷ (8, down 0) ∷ (9, down 1) ∷ (10, down 1 ++ down 2) ∷ []) []
 
 abbrev pub tail : Bool → ℕ → Forest → List Rec
@@ -179,7 +177,7 @@ module _ (is-string : ℕ → Bool) where
   abbrev pub loads-part : ℕ → Bool → Head → Forest → (Bool → Loads) → Loads
   loads-part n may h k down =
       look n ((5, record { may = may && string-stated k; recs = [] }) ∷ (8, down may)
-      ∷ (13, record { may = may; recs = listed (not may) (plainly 12 (h .spot) ∷ []) [] }) ∷ []) (record { may = false; recs = [] })
+      ∷ (13, record { may = may; recs = listed (not may) (plainly 12 h ∷ []) [] }) ∷ []) (record { may = false; recs = [] })
 
   abbrev pub loads : Bool → Forest → Loads
   loads may leaf = record { may = may; recs = [] }
@@ -209,7 +207,7 @@ module _ (is-string : ℕ → Bool) where
 
   -- "13, at the expression"
   abbrev pub effect-part : ℕ → Forest → List Rec → List Rec
-  effect-part n k down = look n ((5, listed (not (effect k)) (plainly 13 (spot-at 4 k) ∷ []) []) ∷ []) down
+  effect-part n k down = look n ((5, listed (not (effect k)) (plainly 13 (head-at 4 k) ∷ []) []) ∷ []) down
 
   abbrev pub effect-walk : Forest → List Rec
   effect-walk leaf = []

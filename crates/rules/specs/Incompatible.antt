@@ -5,11 +5,11 @@ use mathlib.Core.List.{List, [], _∷_, _++_}
 use mathlib.Core.Option.{Option, none, some}
 use lib.Dec.{eqb}
 use Rattle.tree.specs.Bytes.{ascii}
-use Rattle.tree.specs.Forest.{Spot, Head, Forest, Forest.none as leaf, node, treeOf}
+use Rattle.tree.specs.Forest.{Head, Forest, Forest.none as leaf, node, treeOf}
 use Rattle.tree.specs.Values.{Value}
 use Rattle.tree.specs.Table.{tableOf, spells}
-use Rattle.rules.specs.Record.{Rec, no-span, span-of, with-value, named-at, listed}
-use Rattle.rules.specs.Visit.{look, each, kind-at, spot-at, under, how-many}
+use Rattle.rules.specs.Record.{Rec, no-span, valued-at, also-at, listed}
+use Rattle.rules.specs.Visit.{look, each, head-at, kind-at, spot-at, under, how-many}
 use Rattle.rules.specs.Order.{Sort, Sort.load, Sort.assign, Sort.argument, Bind, one, several, nothing, bind-of}
 
 -- ---- 14
@@ -30,14 +30,14 @@ type-check is-type names-type k =
 abbrev pub check-at : (ℕ → Bool) → (ℕ → Bool) → Head → Forest → List Rec
 check-at is-type names-type h k =
     listed ((eqb 31 (h .kind) || eqb 32 (h .kind)) && type-check is-type names-type k)
-    (named-at 14 (with-value (h .spot) (spot-at 2 k .value)) ∷ []) []
+    (valued-at 14 h (spot-at 2 k .value) ∷ []) []
 
 -- ---- 15
 
 -- what a statement does to the top level's names, in file order: define one, by a load or otherwise; x = x
 pub data Deed : Type 0 where
-  defines : Bool → Spot → Deed
-  repeats : Spot → Deed
+  defines : Bool → Head → Deed
+  repeats : Head → Deed
 
 abbrev pub is-load : Sort → Bool
 is-load load = true
@@ -45,14 +45,14 @@ is-load assign = false
 is-load argument = false
 
 -- the names of the role r, also those of several; down: the same below
-abbrev pub deed-part : Bind → Spot → (ℕ → List Deed) → List Deed
-deed-part (one o) s down = defines (is-load o) s ∷ []
-deed-part several s down = down 0
-deed-part nothing s down = []
+abbrev pub deed-part : Bind → Head → (ℕ → List Deed) → List Deed
+deed-part (one o) h down = defines (is-load o) h ∷ []
+deed-part several h down = down 0
+deed-part nothing h down = []
 
 abbrev pub defined-names : ℕ → Forest → List Deed
 defined-names r leaf = []
-defined-names r (node h k s) = listed (eqb r (h .role)) (deed-part (bind-of h) (h .spot) (λ v. defined-names v k)) (defined-names r s)
+defined-names r (node h k s) = listed (eqb r (h .role)) (deed-part (bind-of h) h (λ v. defined-names v k)) (defined-names r s)
 
 -- x = x: the target a name, the value the identifier of that name
 abbrev pub self-set : Forest → Bool
@@ -68,7 +68,7 @@ tops =
     ∷ (8, holding) ∷ (9, holding) ∷ (10, holding) ∷ (11, holding) ∷ []
 
 abbrev pub top-part : Top → Forest → List Deed → List Deed
-top-part assigning k down = cond (self-set k) (repeats (spot-at 5 k) ∷ []) (defined-names 5 k)
+top-part assigning k down = cond (self-set k) (repeats (head-at 5 k) ∷ []) (defined-names 5 k)
 top-part modifying k down = defined-names 5 k
 top-part defining k down = defined-names 6 k
 top-part loading k down = defined-names 0 k
@@ -81,25 +81,25 @@ deeds (node h k s) = top-part (look (h .kind) tops aside) k (deeds k) ++ deeds s
 
 -- a name as first defined
 pub record First : Type 0 where
-  pub spot : Spot
+  pub head : Head
   pub loaded : Bool
 
 abbrev pub first-of : ℕ → List First → Option First
 first-of x [] = none
-first-of x (d ∷ ds) = elim (eqb x (d .spot .value)) [ true ↦ some d | false ↦ first-of x ds ]
+first-of x (d ∷ ds) = elim (eqb x (d .head .spot .value)) [ true ↦ some d | false ↦ first-of x ds ]
 
 abbrev pub times : ℕ → List ℕ → ℕ
 times x [] = 0
 times x (y ∷ ys) = elim (eqb x y) [ true ↦ suc (times x ys) | false ↦ times x ys ]
 
 -- "at the later name, second span the name as first defined"
-abbrev pub again : Spot → Spot → Rec
-again old s = record { code = 15; spot = s; second = span-of old; third = no-span }
+abbrev pub again : Head → Head → Rec
+again old h = also-at 15 h (h .spot .value) old no-span
 
 -- on: the rest, with the first definitions so far
-abbrev pub defined : Option First → Bool → Spot → List First → (List First → List Rec) → List Rec
-defined none l s ds on = on (record { spot = s; loaded = l } ∷ ds)
-defined (some d) l s ds on = again (d .spot) s ∷ on ds
+abbrev pub defined : Option First → Bool → Head → List First → (List First → List Rec) → List Rec
+defined none l h ds on = on (record { head = h; loaded = l } ∷ ds)
+defined (some d) l h ds on = again (d .head) h ∷ on ds
 
 -- free: whether x = x of a loaded name is free after that many free ones; xs: the names that were free so far
 module _ (free : ℕ → Bool) where
@@ -109,11 +109,11 @@ module _ (free : ℕ → Bool) where
 
   abbrev pub repeated : List Deed → List First → List ℕ → List Rec
   repeated [] ds xs = []
-  repeated (defines l s ∷ es) ds xs = defined (first-of (s .value) ds) l s ds (λ v. repeated es v xs)
-  repeated (repeats s ∷ es) ds xs =
-      elim (may-repeat (first-of (s .value) ds) (times (s .value) xs)) [
-        | true ↦ repeated es ds (s .value ∷ xs)
-        | false ↦ defined (first-of (s .value) ds) false s ds (λ v. repeated es v xs)
+  repeated (defines l h ∷ es) ds xs = defined (first-of (h .spot .value) ds) l h ds (λ v. repeated es v xs)
+  repeated (repeats h ∷ es) ds xs =
+      elim (may-repeat (first-of (h .spot .value) ds) (times (h .spot .value) xs)) [
+        | true ↦ repeated es ds (h .spot .value ∷ xs)
+        | false ↦ defined (first-of (h .spot .value) ds) false h ds (λ v. repeated es v xs)
       ]
 
 -- "x = x, where the first definition of x is a load, is free once"

@@ -189,7 +189,7 @@ some-return =
 
 -- ---- the table
 
--- a file, and the records of its list in each mode, eight numbers a record
+-- a file, and the records of its list in each mode, ten numbers a record
 pub record Row : Type 0 where
   pub tree : List ℕ
   pub ordinarily : List ℕ
@@ -209,13 +209,19 @@ always t ns = record { tree = t; ordinarily = ns; strictly = ns }
 abbrev pub rows : List Row
 rows =
     always empty []
-    ∷ always looped (6 ∷ 21 ∷ 22 ∷ 0 ∷ 0 ∷ 0 ∷ 0 ∷ 0 ∷ [])
-    ∷ always both-return (9 ∷ 59 ∷ 65 ∷ 65535 ∷ 0 ∷ 0 ∷ 0 ∷ 0 ∷ [])
-    ∷ always set-twice (2 ∷ 0 ∷ 1 ∷ 0 ∷ 0 ∷ 0 ∷ 0 ∷ 0 ∷ 15 ∷ 6 ∷ 7 ∷ 0 ∷ 0 ∷ 1 ∷ 0 ∷ 0 ∷ [])
-    ∷ always three-ones (16 ∷ 5 ∷ 6 ∷ 3 ∷ 11 ∷ 14 ∷ 2 ∷ 0 ∷ 16 ∷ 11 ∷ 14 ∷ 2 ∷ 19 ∷ 20 ∷ 2 ∷ 0 ∷ [])
-    ∷ record { tree = large-keys; ordinarily = []; strictly = 16 ∷ 5 ∷ 16 ∷ 3 ∷ 21 ∷ 25 ∷ 2 ∷ 0 ∷ [] }
-    ∷ always loaded (15 ∷ 21 ∷ 22 ∷ 0 ∷ 10 ∷ 13 ∷ 0 ∷ 0 ∷ [])
-    ∷ always some-return (8 ∷ 0 ∷ 37 ∷ 1 ∷ 29 ∷ 37 ∷ 0 ∷ 0 ∷ [])
+    ∷ always looped (6 ∷ 21 ∷ 22 ∷ 0 ∷ 0 ∷ 0 ∷ 0 ∷ 0 ∷ 8 ∷ 65535 ∷ [])
+    ∷ always both-return (9 ∷ 59 ∷ 65 ∷ 65535 ∷ 0 ∷ 0 ∷ 0 ∷ 0 ∷ 13 ∷ 65535 ∷ [])
+    ∷ always set-twice
+    (2 ∷ 0 ∷ 1 ∷ 0 ∷ 0 ∷ 0 ∷ 0 ∷ 0 ∷ 2 ∷ 65535
+    ∷ 15 ∷ 6 ∷ 7 ∷ 0 ∷ 0 ∷ 1 ∷ 0 ∷ 0 ∷ 5 ∷ 2
+    ∷ [])
+    ∷ always three-ones
+    (16 ∷ 5 ∷ 6 ∷ 3 ∷ 11 ∷ 14 ∷ 2 ∷ 0 ∷ 3 ∷ 5
+    ∷ 16 ∷ 11 ∷ 14 ∷ 2 ∷ 19 ∷ 20 ∷ 2 ∷ 0 ∷ 5 ∷ 7
+    ∷ [])
+    ∷ record { tree = large-keys; ordinarily = []; strictly = 16 ∷ 5 ∷ 16 ∷ 3 ∷ 21 ∷ 25 ∷ 2 ∷ 0 ∷ 3 ∷ 5 ∷ [] }
+    ∷ always loaded (15 ∷ 21 ∷ 22 ∷ 0 ∷ 10 ∷ 13 ∷ 0 ∷ 0 ∷ 7 ∷ 2 ∷ [])
+    ∷ always some-return (8 ∷ 0 ∷ 37 ∷ 1 ∷ 29 ∷ 37 ∷ 0 ∷ 0 ∷ 1 ∷ 6 ∷ [])
     ∷ []
 
 abbrev pub is-valid : Judged → Bool

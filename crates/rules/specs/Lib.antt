@@ -1,8 +1,9 @@
--- The rules of document 01 as definitions, in its order.
+-- The rules of document 01, and what document 02 adds to them, as definitions, in 01's order.
 pub mod Record
 pub mod Visit
 pub mod Order
 pub mod Names
+pub mod Meeting
 pub mod Flow
 pub mod Incompatible
 pub mod Dubious

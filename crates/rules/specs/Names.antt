@@ -1,12 +1,13 @@
--- 01, "Names": the scopes, and what using, setting, a branch, a loop and leaving a scope do. Assumes nothing.
+-- 01, "Names": the scopes, and what using, setting, a branch, a loop and leaving a scope do; 02, §4: which node a record has.
+-- Assumes nothing.
 use Prim.Native.Nat.{ℕ, suc}
 use mathlib.Core.Bool.{Bool, true, false, cond, _&&_, _||_, not}
 use mathlib.Core.List.{List, [], _∷_, _++_, map}
 use mathlib.Core.Option.{Option, none, some}
 use lib.Dec.{eqb, leb}
-use Rattle.tree.specs.Forest.{Spot, Forest, treeOf}
+use Rattle.tree.specs.Forest.{Spot, Head, Forest, treeOf}
 use Rattle.tree.specs.Table.{tableOf, spells, underscored, globalsOf}
-use Rattle.rules.specs.Record.{Rec, named-at}
+use Rattle.rules.specs.Record.{Rec, no-span, no-number}
 use Rattle.rules.specs.Order.{Stop, Sort, Cmd, breaks, bare, valued, fails, skip, _⨟_, use-of, set-of, stop, branch, loop, scope, body, fail-name}
 
 -- "an abort: none, loop or function, ordered so"
@@ -28,7 +29,7 @@ smaller function-abort b = b
 -- "Return and a statement that is a call of the identifier fail set function; break and continue set loop."
 abbrev pub abort-of : Stop → Abort
 abort-of (breaks b) = loop-abort
-abort-of (bare s) = function-abort
+abort-of (bare h) = function-abort
 abort-of valued = function-abort
 abort-of fails = function-abort
 
@@ -201,14 +202,19 @@ join a b x y =
 abbrev pub goes-on : (ℕ → Standing) → Abort → State → State
 goes-on f a st = record { here = stands f a (st .here); above = st .above; out = st .out }
 
--- "Branch: both sides start from the same standings and abort; uses, used pairs and settings gather through both.
--- Abort after is the smaller."
-abbrev pub branch-of : (State → State) → (State → State) → State → State
-branch-of f g st =
-    let one = f st in
-    let two = g (goes-on (st .here .standing) (st .here .abort) one) in
+-- "both sides start from the same standings and abort": where the second starts, st before and one after the first side
+abbrev pub back-to : State → State → State
+back-to st one = goes-on (st .here .standing) (st .here .abort) one
+
+-- "Abort after is the smaller."
+abbrev pub joined : State → State → State
+joined one two =
     goes-on (λ x. join (one .here .abort) (two .here .abort) (one .here .standing x) (two .here .standing x))
     (smaller (one .here .abort) (two .here .abort)) two
+
+-- "Branch: both sides start from the same standings and abort; uses, used pairs and settings gather through both."
+abbrev pub branch-of : (State → State) → (State → State) → State → State
+branch-of f g st = let one = f st in joined one (g (back-to st one))
 
 -- "after each, a loop abort becomes none"
 abbrev pub unloop : Abort → Abort
@@ -216,12 +222,15 @@ unloop no-abort = no-abort
 unloop loop-abort = no-abort
 unloop function-abort = function-abort
 
+abbrev pub unlooped : State → State
+unlooped st = goes-on (st .here .standing) (unloop (st .here .abort)) st
+
 abbrev pub same-state : State → State
 same-state st = st
 
 -- "the target as in an assign and the body, together as a branch against nothing"
 abbrev pub round : (State → State) → State → State
-round f st = let r = branch-of f same-state st in goes-on (r .here .standing) (unloop (r .here .abort)) r
+round f st = unlooped (branch-of f same-state st)
 
 -- "1 unused load, 2 unused assign, 3 unused argument"
 abbrev pub unused : Sort → ℕ
@@ -289,8 +298,8 @@ module _ (underscore : ℕ → Bool) where
   abbrev pub walk : ℕ → Cmd → State → State
   walk depth skip st = st
   walk depth (a ⨟ b) st = walk depth b (walk depth a st)
-  walk depth (use-of s) st = use-at s st
-  walk depth (set-of o s) st = record { here = set-at o s (st .here); above = st .above; out = st .out }
+  walk depth (use-of h) st = use-at (h .spot) st
+  walk depth (set-of o h) st = record { here = set-at o (h .spot) (st .here); above = st .above; out = st .out }
   walk depth (stop why) st = goes-on (st .here .standing) (abort-of why) st
   walk depth (branch a b) st = branch-of (walk depth a) (walk depth b) st
   walk depth (loop c) st = rounds (leb (suc depth) 5) (walk (suc depth) c) st
@@ -305,11 +314,41 @@ module _ (underscore : ℕ → Bool) where
   abbrev pub names : (ℕ → Bool) → Option (ℕ → Bool) → Forest → List Warning
   names is-fail globals f = names-of globals (body is-fail f)
 
--- "Value: for 1 to 6 .. the name"
-abbrev pub told : Warning → Rec
-told w = named-at (w .code) (w .spot)
+-- The nodes that the walk of a command meets, in its order: it meets a node when it uses or sets the name there. Of a branch it walks
+-- the first side, then the second; of a loop the first round counts, since the second meets the same nodes again.
+abbrev pub met : Cmd → List Head
+met skip = []
+met (a ⨟ b) = met a ++ met b
+met (use-of h) = h ∷ []
+met (set-of o h) = h ∷ []
+met (stop why) = []
+met (branch a b) = met a ++ met b
+met (loop c) = met c
+met (scope c) = met c
+
+-- 02, §4: "Where nodes share span and name, a names record has the one that the names walk meets first": the number of the first of
+-- these nodes that has this span and name (none of them: no spot that names warns at, as warned-met of proofs/FirstMet shows)
+abbrev pub first-met : Spot → List Head → ℕ
+first-met s [] = no-number
+first-met s (h ∷ hs) = elim (same s (h .spot)) [ true ↦ h .number | false ↦ first-met s hs ]
+
+-- "Value: for 1 to 6 .. the name"; hs: the nodes that the walk meets
+abbrev pub told : List Head → Warning → Rec
+told hs w =
+    record {
+      code = w .code;
+      spot = w .spot;
+      second = no-span;
+      third = no-span;
+      number = first-met (w .spot) hs;
+      number2 = no-number;
+    }
+
+-- the nodes of a file that the walk meets
+unfoldable pub met-in : List ℕ → List Head
+met-in t = met (body (spells (tableOf t) fail-name) (treeOf t))
 
 -- of a file's bytes
 unfoldable pub names-list : List ℕ → List Rec
 names-list t =
-    map told (names (underscored (tableOf t)) (spells (tableOf t) fail-name) (globalsOf t) (treeOf t))
+    map (told (met-in t)) (names (underscored (tableOf t)) (spells (tableOf t) fail-name) (globalsOf t) (treeOf t))

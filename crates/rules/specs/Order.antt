@@ -5,7 +5,7 @@ use mathlib.Core.Bool.{Bool, true, false, cond, _&&_, _||_}
 use mathlib.Core.List.{List, [], _∷_}
 use lib.Dec.{eqb}
 use Rattle.tree.specs.Bytes.{ascii}
-use Rattle.tree.specs.Forest.{Spot, Head, Forest, none, node}
+use Rattle.tree.specs.Forest.{Head, Forest, none, node}
 use Rattle.rules.specs.Visit.{look, has}
 
 -- break ends its loop, continue the loop's round
@@ -15,7 +15,7 @@ pub data Broken : Type 0 where
 -- why a statement stops what comes after it: break or continue; return with no expression, or with one; a call of fail
 pub data Stop : Type 0 where
   breaks : Broken → Stop
-  bare : Spot → Stop
+  bare : Head → Stop
   valued : Stop
   fails : Stop
 
@@ -23,13 +23,13 @@ pub data Stop : Type 0 where
 pub data Sort : Type 0 where
   load assign argument : Sort
 
--- Use a name; set one; stop (the pass notes an abort and goes on, a run ends there); two sides (the pass goes through both, a run
+-- Use the name at a node; set it; stop (the pass notes an abort and goes on, a run ends there); two sides (the pass goes through both, a run
 -- takes one); a loop; a scope of its own.
 pub data Cmd : Type 0 where
   skip : Cmd
   _⨟_ : Cmd → Cmd → Cmd
-  use-of : Spot → Cmd
-  set-of : Sort → Spot → Cmd
+  use-of : Head → Cmd
+  set-of : Sort → Head → Cmd
   stop : Stop → Cmd
   branch : Cmd → Cmd → Cmd
   loop : Cmd → Cmd
@@ -71,7 +71,7 @@ abbrev pub bind-of : Head → Bind
 bind-of h = look (h .kind) bindings nothing
 
 abbrev pub bind-part : Bind → Head → (ℕ → Cmd) → Cmd
-bind-part (one o) h down = set-of o (h .spot)
+bind-part (one o) h down = set-of o h
 bind-part several h down = down 0
 bind-part nothing h down = skip
 
@@ -82,7 +82,7 @@ binds r (node h k s) = picked (eqb r (h .role)) (bind-part (bind-of h) h (λ v. 
 
 -- the same names as uses
 abbrev pub use-part : Bind → Head → (ℕ → Cmd) → Cmd
-use-part (one o) h down = use-of (h .spot)
+use-part (one o) h down = use-of h
 use-part several h down = down 0
 use-part nothing h down = skip
 
@@ -118,7 +118,7 @@ module _ (is-fail : ℕ → Bool) where
   -- "Comprehension: first over, new scope, first target; ..; result (key before it)."
   abbrev pub part : Form → Head → Forest → (Want → Cmd) → Cmd
   part Form.breaking h k down = stop (breaks (broken-by h))
-  part Form.returning h k down = down (of-role 4) ⨟ stop (cond (has 4 k) valued (bare (h .spot)))
+  part Form.returning h k down = down (of-role 4) ⨟ stop (cond (has 4 k) valued (bare h))
   part Form.expression h k down = down (of-role 4) ⨟ cond (fail-called k) (stop fails) skip
   part Form.assign h k down = down (of-role 3) ⨟ down (of-role 4) ⨟ down (of-role 5) ⨟ binds 5 k
   part Form.modify h k down = down (of-role 4) ⨟ down (of-role 5) ⨟ uses 5 k ⨟ down (of-role 5) ⨟ binds 5 k
@@ -128,7 +128,7 @@ module _ (is-fail : ℕ → Bool) where
   part Form.for h k down = down (of-role 4) ⨟ loop (down (of-role 5) ⨟ binds 5 k ⨟ down (of-role 1))
   part Form.def h k down = down (of-role 0) ⨟ down (of-role 3) ⨟ binds 6 k ⨟ scope (binds 0 k ⨟ down (of-role 1))
   part Form.load h k down = binds 0 k
-  part Form.identifier h k down = use-of (h .spot)
+  part Form.identifier h k down = use-of h
   part Form.lambda h k down = down (of-role 0) ⨟ scope (binds 0 k ⨟ down (of-role 1))
   part Form.comprehension h k down = down first-over ⨟ scope (down first-bound ⨟ down (of-role 8) ⨟ down (of-role 4))
   part Form.plain h k down = down every

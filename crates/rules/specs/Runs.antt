@@ -2,14 +2,14 @@
 -- parts of a statement are taken in 01's order by construction; "every condition and loop count" falls as it may.
 -- "A call of fail never finishing": no run finishes the statement fail(..), while the uses in it are reached. Of a call of fail
 -- inside another expression, and of a use of a name that isn't set, the commands say nothing: here are runs that go on after it,
--- more than the letter's, so the theorem is stronger. Of a conditional expression, and, or, all parts are taken: an expression
+-- more than the letter's, so the theorem is stronger. Of a conditional expression, of and-, or-expressions, all parts are taken: an expression
 -- sets no name of the body and cuts nothing short, so a run that skips a part reaches no use that isn't reached here with the
 -- same names set. Assumes nothing.
 use Prim.Native.Nat.{ℕ}
 use mathlib.Core.Path.{_≡_}
 use mathlib.Core.Bool.{Bool, true, false, _||_, not}
 use lib.Dec.{eqb, T}
-use Rattle.tree.specs.Forest.{Spot, Head, Forest, node}
+use Rattle.tree.specs.Forest.{Head, Forest, node}
 use Rattle.rules.specs.Order.{Stop, Broken, the-loop, the-round, Sort, Cmd, breaks, bare, valued, fails, skip, _⨟_, use-of, set-of, stop, branch, loop, scope, body, def-body}
 
 -- a node of a forest, with its children
@@ -27,8 +27,8 @@ pub data Body (is-fail : ℕ → Bool) (f : Forest) : Cmd → Type 0 where
 abbrev pub own : ℕ → Cmd → Bool
 own x skip = false
 own x (a ⨟ b) = own x a || own x b
-own x (use-of s) = false
-own x (set-of o s) = eqb x (s .value)
+own x (use-of h) = false
+own x (set-of o h) = eqb x (h .spot .value)
 own x (stop w) = false
 own x (branch a b) = own x a || own x b
 own x (loop c) = own x c
@@ -41,8 +41,8 @@ Held = ℕ → Bool
 abbrev pub nobody : Held
 nobody x = false
 
-abbrev pub hold : Spot → Held → Held
-hold s σ x = eqb x (s .value) || σ x
+abbrev pub hold : Head → Held → Held
+hold h σ x = eqb x (h .spot .value) || σ x
 
 -- how a run of a part ends: it comes to the part's end, or it is cut short by a break, a continue or a return (never by fails)
 pub data End : Type 0 where
@@ -51,7 +51,7 @@ pub data End : Type 0 where
 
 abbrev pub is-return : Stop → Bool
 is-return (breaks b) = false
-is-return (bare s) = true
+is-return (bare h) = true
 is-return valued = true
 is-return fails = false
 
@@ -60,8 +60,8 @@ pub data Run : Cmd → Held → End → Held → Type 0 where
   skips : {σ : Held} → Run skip σ through σ
   next : {a b : Cmd} {σ τ υ : Held} {e : End} → Run a σ through τ → Run b τ e υ → Run (a ⨟ b) σ e υ
   cut : {a b : Cmd} {σ τ : Held} {w : Stop} → Run a σ (by w) τ → Run (a ⨟ b) σ (by w) τ
-  uses : {s : Spot} {σ : Held} → Run (use-of s) σ through σ
-  sets : {o : Sort} {s : Spot} {σ : Held} → Run (set-of o s) σ through (hold s σ)
+  uses : {h : Head} {σ : Held} → Run (use-of h) σ through σ
+  sets : {o : Sort} {h : Head} {σ : Held} → Run (set-of o h) σ through (hold h σ)
   -- break, continue and return cut short; fail isn't among them
   breaking : {b : Broken} {σ : Held} → Run (stop (breaks b)) σ (by (breaks b)) σ
   returns : {w : Stop} {σ : Held} → T (is-return w) → Run (stop w) σ (by w) σ
@@ -76,13 +76,13 @@ pub data Run : Cmd → Held → End → Held → Type 0 where
   -- the body of a nested def, lambda or comprehension isn't of the body's own scope
   apart : {c : Cmd} {σ : Held} → Run (scope c) σ through σ
 
--- A run of a part, with the names of σ set before it, reaches the use at s before the name there was set.
-pub data Reach (s : Spot) : Cmd → Held → Type 0 where
-  here : {σ : Held} → T (not (σ (s .value))) → Reach s (use-of s) σ
-  first : {a b : Cmd} {σ : Held} → Reach s a σ → Reach s (a ⨟ b) σ
-  second : {a b : Cmd} {σ τ : Held} → Run a σ through τ → Reach s b τ → Reach s (a ⨟ b) σ
-  left : {a b : Cmd} {σ : Held} → Reach s a σ → Reach s (branch a b) σ
-  right : {a b : Cmd} {σ : Held} → Reach s b σ → Reach s (branch a b) σ
-  now : {c : Cmd} {σ : Held} → Reach s c σ → Reach s (loop c) σ
-  later : {c : Cmd} {σ τ : Held} → Run c σ through τ → Reach s (loop c) τ → Reach s (loop c) σ
-  continued : {c : Cmd} {σ τ : Held} → Run c σ (by (breaks the-round)) τ → Reach s (loop c) τ → Reach s (loop c) σ
+-- A run of a part, with the names of σ set before it, reaches the use at the node h before the name there was set.
+pub data Reach (h : Head) : Cmd → Held → Type 0 where
+  here : {σ : Held} → T (not (σ (h .spot .value))) → Reach h (use-of h) σ
+  first : {a b : Cmd} {σ : Held} → Reach h a σ → Reach h (a ⨟ b) σ
+  second : {a b : Cmd} {σ τ : Held} → Run a σ through τ → Reach h b τ → Reach h (a ⨟ b) σ
+  left : {a b : Cmd} {σ : Held} → Reach h a σ → Reach h (branch a b) σ
+  right : {a b : Cmd} {σ : Held} → Reach h b σ → Reach h (branch a b) σ
+  now : {c : Cmd} {σ : Held} → Reach h c σ → Reach h (loop c) σ
+  later : {c : Cmd} {σ τ : Held} → Run c σ through τ → Reach h (loop c) τ → Reach h (loop c) σ
+  continued : {c : Cmd} {σ τ : Held} → Run c σ (by (breaks the-round)) τ → Reach h (loop c) τ → Reach h (loop c) σ

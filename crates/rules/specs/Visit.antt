@@ -4,7 +4,7 @@ use mathlib.Core.Bool.{Bool, true, false, _||_}
 use mathlib.Core.List.{List, [], _∷_, _++_}
 use lib.Dec.{eqb}
 use Rattle.tree.specs.Forest.{Spot, Head, Forest, Forest.none as leaf, node}
-use Rattle.rules.specs.Record.{Rec}
+use Rattle.rules.specs.Record.{Rec, no-number}
 
 -- what a table says of a number; d where it has no row
 abbrev pub look {ℓ} : {A : Type ℓ} → ℕ → List (ℕ × A) → A → A
@@ -25,14 +25,20 @@ abbrev pub how-many : ℕ → Forest → ℕ
 how-many r leaf = 0
 how-many r (node h k s) = elim (eqb r (h .role)) [ true ↦ suc (how-many r s) | false ↦ how-many r s ]
 
--- of the first node of the role r: its kind (0: there is none), its spot, its children
+-- what stands for a node that isn't there: kind 0 is no node's
+abbrev pub no-head : Head
+no-head = record { kind = 0; role = 0; spot = record { begin = 0; end = 0; value = no-number }; number = no-number }
+
+-- of the first node of the role r: its head; in it its kind and its spot; its children
+abbrev pub head-at : ℕ → Forest → Head
+head-at r leaf = no-head
+head-at r (node h k s) = elim (eqb r (h .role)) [ true ↦ h | false ↦ head-at r s ]
+
 abbrev pub kind-at : ℕ → Forest → ℕ
-kind-at r leaf = 0
-kind-at r (node h k s) = elim (eqb r (h .role)) [ true ↦ h .kind | false ↦ kind-at r s ]
+kind-at r f = head-at r f .kind
 
 abbrev pub spot-at : ℕ → Forest → Spot
-spot-at r leaf = record { begin = 0; end = 0; value = 0 }
-spot-at r (node h k s) = elim (eqb r (h .role)) [ true ↦ h .spot | false ↦ spot-at r s ]
+spot-at r f = head-at r f .spot
 
 abbrev pub under : ℕ → Forest → Forest
 under r leaf = leaf

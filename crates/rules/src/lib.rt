@@ -3,7 +3,7 @@ ghost use mathlib.Core.Path.{_≡_};
 ghost use Rattle.rules.specs.Outcome.{numberOf, placeOf};
 
 // The words of a record; the counts of a tally, and the last code; the words of work room that names needs.
-pub const WIDTH: usize = 8;
+pub const WIDTH: usize = 10;
 
 pub const CODES: usize = 17;
 

@@ -49,7 +49,7 @@ pub fn word_at(w: &[u16], k: usize) -> usize
 }
 
 // A word is set, if it is there.
-pub(crate) fn store(w: &mut [u16], k: usize, v: usize)
+pub fn store(w: &mut [u16], k: usize, v: usize)
     requires { ⌜ v < 65536 ⌝ }
     ensures { λ _. ⌜ now (w .exit) ≡ set (now (w .entry)) k v ⌝ }
 {
@@ -77,7 +77,7 @@ pub(crate) fn same_name(t: &[u8], a: usize, b: usize) -> bool
     value_at(t, a) == value_at(t, b)
 }
 
-pub(crate) fn same_spot(t: &[u8], a: usize, b: usize) -> bool
+pub fn same_spot(t: &[u8], a: usize, b: usize) -> bool
     ensures { λ r. ⌜ r ≡ same (spotAt (now (t .entry)) a) (spotAt (now (t .entry)) b) ⌝ }
 {
     if value_at(t, a) != value_at(t, b) {

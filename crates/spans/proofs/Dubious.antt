@@ -1,50 +1,54 @@
--- Dubious' records, 16 and 17, are fit where the tree's spans are in order. Assumes nothing.
+-- Dubious' records, 16 and 17, are made of the tree's nodes. Assumes nothing.
 use Prim.Native.Nat.{ℕ}
 use native.Mathlib.Omega.{arith}
 use mathlib.Core.Bool.{_&&_, _||_}
 use mathlib.Core.List.{List, [], _∷_}
 use lib.Dec.{eqb}
-use Rattle.tree.specs.Forest.{Spot, Forest, Forest.none as leaf, node}
+use Rattle.tree.specs.Forest.{Head, Forest, Forest.none as leaf, node}
 use Rattle.tree.specs.declared.Likeness.{Likeness}
 use Rattle.tree.specs.declared.Likeness.the-variants.{Different, SameForm, SameNumber}
 use Rattle.rules.specs.Record.{Rec, named-at}
-use Rattle.rules.specs.Visit.{spot-at, each, kind-at}
-use Rattle.rules.specs.Dubious.{keys, seen-with, clash, against, doubles, dict-at, idle-at, dubious}
-use Rattle.spans.specs.Fit.{Fit, Each, Ordered}
-use Rattle.spans.proofs.Each.{Straight, join, listed-each}
-use Rattle.spans.proofs.Flow.{place-straight}
-use Rattle.spans.proofs.Incompatible.{each-fit}
+use Rattle.rules.specs.Visit.{head-at, each, kind-at}
+use Rattle.rules.specs.Dubious.{keys, seen-with, reason-span, clash, against, doubles, dict-at, idle-at, dubious}
+use Rattle.rules.proofs.Bools.{and-right}
+use Rattle.spans.specs.Fit.{Each}
+use Rattle.spans.proofs.Each.{join, listed-each, listed-if}
+use Rattle.spans.proofs.Made.{Throughout, Made, one, double, kind-has, place, each-made}
 
-keys-straight : (f : Forest) → Ordered f → Each Straight (keys f)
-keys-straight leaf o = tt
-keys-straight (node h k s) o =
-    listed-each Straight (eqb 8 (h .role) && (eqb 20 (h .kind) || eqb 21 (h .kind))) (h .spot ∷ []) (keys s) (o .0, tt)
-    (keys-straight s (o .1 .1))
+module _ (P : Head → Type 0) where
+  keys-held : (f : Forest) → Throughout P f → Each P (keys f)
+  keys-held leaf o = tt
+  keys-held (node h k s) o =
+      listed-each P (eqb 8 (h .role) && (eqb 20 (h .kind) || eqb 21 (h .kind))) (h ∷ []) (keys s) (o .0 .0, tt) (keys-held s (o .1 .1))
 
-clash-fit : (l : Likeness) (old s : Spot) (on : List Rec) → Straight old → Straight s → Each Fit on → Each Fit (clash l old s on)
-clash-fit Different old s on a b p = p
-clash-fit SameForm old s on a b p = omega arith
-clash-fit SameNumber old s on a b p = omega arith
+  clash-made : (l : Likeness) (old h : Head) (on : List Rec) → P old → P h → Each (Made P) on → Each (Made P) (clash l old h on)
+  clash-made Different old h on a b p = p
+  clash-made SameForm old h on a b p = (double old (h .spot .value) h (reason-span SameForm) a b (omega arith), tt)
+  clash-made SameNumber old h on a b p = (double old (h .spot .value) h (reason-span SameNumber) a b (omega arith), tt)
 
-module _ (test : ℕ → ℕ → Likeness) where
-  against-fit : (s : Spot) (seen : List Spot) → Straight s → Each Straight seen → Each Fit (against test s seen)
-  against-fit s [] a p = tt
-  against-fit s (old ∷ seen) a p =
-      clash-fit (test (old .value) (s .value)) old s (against test s seen) (p .0) a (against-fit s seen a (p .1))
+  module _ (test : ℕ → ℕ → Likeness) where
+    against-made : (h : Head) (seen : List Head) → P h → Each P seen → Each (Made P) (against test h seen)
+    against-made h [] a p = tt
+    against-made h (old ∷ seen) a p =
+        clash-made (test (old .spot .value) (h .spot .value)) old h (against test h seen) (p .0) a (against-made h seen a (p .1))
 
-  doubles-fit : (seen ss : List Spot) → Each Straight seen → Each Straight ss → Each Fit (doubles test seen ss)
-  doubles-fit seen [] p q = tt
-  doubles-fit seen (s ∷ ss) p q =
-      join Fit (against test s seen) (doubles test (seen-with s seen) ss) (against-fit s seen (q .0) p)
-      (doubles-fit (seen-with s seen) ss (q .0, p) (q .1))
+    doubles-made : (seen hs : List Head) → Each P seen → Each P hs → Each (Made P) (doubles test seen hs)
+    doubles-made seen [] p q = tt
+    doubles-made seen (h ∷ hs) p q =
+        join (Made P) (against test h seen) (doubles test (seen-with h seen) hs) (against-made h seen (q .0) p)
+        (doubles-made (seen-with h seen) hs (q .0, p) (q .1))
 
-  -- DUBIOUS
-  pub dubious-fit : (f : Forest) → Ordered f → Each Fit (dubious test f)
-  dubious-fit f o =
-      join Fit (each (dict-at test) f) (each idle-at f)
-      (each-fit (dict-at test)
-      (λ h k a b. listed-each Fit (eqb 29 (h .kind)) (doubles test [] (keys k)) [] (doubles-fit [] (keys k) tt (keys-straight k b)) tt)
-      f o)
-      (each-fit idle-at
-      (λ h k a b. let p = place-straight k b 4 in
-      listed-each Fit (eqb 5 (h .kind) && eqb 20 (kind-at 4 k)) (named-at 17 (spot-at 4 k) ∷ []) [] (omega arith) tt) f o)
+    -- DUBIOUS
+    pub dubious-made : (f : Forest) → Throughout P f → Each (Made P) (dubious test f)
+    dubious-made f o =
+        join (Made P) (each (dict-at test) f) (each idle-at f)
+        (each-made P (dict-at test)
+        (λ h k a b. listed-each (Made P) (eqb 29 (h .kind)) (doubles test [] (keys k)) [] (doubles-made [] (keys k) tt (keys-held k b)) tt)
+        f o)
+        (each-made P idle-at
+        (λ h k a b. listed-if (Made P) (eqb 5 (h .kind) && eqb 20 (kind-at 4 k)) (named-at 17 (head-at 4 k) ∷ []) []
+        (λ t. (
+          one 17 (head-at 4 k) (head-at 4 k .spot .value) tt
+              (place P k b 4 (kind-has k 4 19 (and-right (eqb 5 (h .kind)) (eqb 20 (kind-at 4 k)) t))),
+          tt,
+        )) tt) f o)

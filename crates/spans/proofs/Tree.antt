@@ -1,38 +1,93 @@
--- A valid file's nodes: none ends before it begins, for refusal 6 was not given. Assumes nothing.
-use Prim.Native.Nat.{ℕ, _≤_, _<_}
+-- A valid file's nodes: what holds of each by its number holds throughout the tree. None ends before it begins, for refusal 6 was not
+-- given; each has its own number; and the expression of a statement is there, for refusal 7 was not given. Assumes nothing.
+use Prim.Native.Nat.{ℕ, _+_, _≤_, _<_}
 use native.Mathlib.Omega.{arith}
-use mathlib.Core.Path.{_≡_}
+use mathlib.Core.Path.{_≡_, refl, sym, subst}
 use mathlib.Core.List.{List}
-use mathlib.Core.Bool.{true}
-use lib.Dec.{leb}
+use mathlib.Core.Bool.{Bool, true, false, _||_}
+use lib.Dec.{leb, eqb, T, eqb→eq, eqb-refl}
 use borrow.Author.Tests.{leb-true}
-use Rattle.tree.specs.Bytes.{nodeCount, valueCount, kindAt, beginAt, endAt}
+use Rattle.tree.specs.Bytes.{nodeCount, valueCount, kindAt, sizeAt, beginAt, endAt, pick}
 use Rattle.tree.specs.Nodes.{known}
-use Rattle.tree.specs.code.Stages.{good6, bad6, None6}
-use Rattle.tree.specs.Forest.{headAt, spotAt, forestOf, treeOf}
+use Rattle.tree.specs.Children.{slotOf, many}
+use Rattle.tree.specs.code.Stages.{good6, bad6}
+use Rattle.tree.specs.code.Sound.{Sound}
+use Rattle.tree.specs.Forest.{Head, Forest, Forest.none as leaf, node, headAt, spotAt, forestOf, treeOf}
 use Rattle.tree.specs.code.Part.{Part}
-use Rattle.tree.specs.Judge.{judged}
 use Rattle.tree.specs.declared.Facts.{Facts}
-use Rattle.tree.specs.declared.Judged.the-variants.{Valid}
 use Rattle.tree.proofs.Search.{lowest-clear, not-so}
 use Rattle.tree.proofs.Names.{and-left, and-right}
+use Rattle.tree.proofs.Fields.{number-own}
 use Rattle.tree.proofs.Laws.{forest-none, forest-node, ended, induct}
-use Rattle.tree.proofs.Whole.{sound, whole-part}
-use Rattle.spans.specs.Fit.{Ordered}
+use Rattle.tree.proofs.Roles.{kid-many}
+use Rattle.tree.proofs.Whole.{whole-part}
+use Rattle.rules.specs.Visit.{has}
+use Rattle.rules.proofs.Bools.{or-left, or-right}
+use Rattle.spans.proofs.Made.{Throughout}
 
-module _ (t : List ℕ) (n nv : ℕ) (clear : None6 t n nv) where
-  node-ordered : (i : ℕ) → i < n → beginAt t i ≤ endAt t i
-  unfolding bad6 good6
-  node-ordered i h =
+-- a node that doesn't end before it begins
+abbrev pub Straight : Head → Type 0
+Straight h = h .spot .begin ≤ h .spot .end
+
+-- a node of the file t that has its own number
+pub record Own (t : List ℕ) (h : Head) : Type 0 where
+  pub below : h .number < nodeCount t
+  pub there : h .spot ≡ spotAt t (h .number)
+
+head-spot : (t : List ℕ) (i : ℕ) → headAt t i .spot ≡ spotAt t i
+unfolding headAt
+head-spot t i = refl
+
+-- a role that one or more of these have is there
+many-has : (k : Forest) (r : ℕ) → 1 ≤ many r k → T (has r k)
+unfolding many
+many-has leaf r l = absurd (let z : ⊥ = omega arith in z)
+many-has (node h k s) r l = go (eqb (h .role) r) refl (many-has s r) l
+  where
+    go : (b : Bool) → eqb (h .role) r ≡ b → (1 ≤ many r s → T (has r s)) → 1 ≤ pick b 1 0 + many r s → T (eqb r (h .role) || has r s)
+    go true e f l =
+        or-left (eqb r (h .role)) (has r s)
+        (subst (λ (x : ℕ). T (eqb r x)) (sym (eqb→eq (h .role) r (subst T (sym e) tt))) (eqb-refl r))
+    go false e f l = or-right (eqb r (h .role)) (has r s) (f (omega arith))
+
+module _ (t : List ℕ) (f : Facts) (s : Sound t f) where
+  -- "5 expression: E4": a statement of kind 5 has a child of role 4
+  stated : (i : ℕ) → i < nodeCount t → T (eqb (headAt t i .kind) 5) → T (has 4 (forestOf t (i + 1) (i + sizeAt t i)))
+  unfolding headAt slotOf
+  stated i l q =
+      let e : kindAt t i ≡ 5 = eqb→eq (kindAt t i) 5 q in
+      let m : slotOf (kindAt t i) 4 .least ≤ many 4 (forestOf t (i + 1) (i + sizeAt t i)) = kid-many s l 4 (omega arith) .0 in
+      let u : slotOf 5 4 .least ≤ many 4 (forestOf t (i + 1) (i + sizeAt t i)) = rw e at m in
+      many-has (forestOf t (i + 1) (i + sizeAt t i)) 4 u
+
+  module _ (P : Head → Type 0) (holds : (i : ℕ) → i < nodeCount t → P (headAt t i)) where
+    part-held : {i e : ℕ} → Part t i e → e ≤ nodeCount t → Throughout P (forestOf t i e)
+    part-held p = induct (λ i e. e ≤ nodeCount t → Throughout P (forestOf t i e)) t
+        (λ i e h b. rw (forest-none t i e h) tt)
+        (λ i e p lt a c b. let d = ended p lt in let l : i < nodeCount t = omega arith in
+        rw (forest-node p lt) ((holds i l, stated i l), (a (omega arith), c b))) p
+
+    tree-held : Throughout P (treeOf t)
+    unfolding treeOf
+    tree-held = part-held (whole-part t f s) (omega arith)
+
+  node-straight : (i : ℕ) → i < nodeCount t → Straight (headAt t i)
+  unfolding bad6 good6 headAt spotAt
+  node-straight i h =
+      let n = nodeCount t in
+      let nv = valueCount t in
+      let clear = s .none6 in
       let g : good6 t n nv i ≡ true = not-so (good6 t n nv i) (lowest-clear n (bad6 t n nv) i (omega (arith, clear))) in
       leb-true _ _ (and-left (leb (beginAt t i) (endAt t i)) _ (and-right (known (kindAt t i)) _ g))
 
-  part-ordered : {i e : ℕ} → Part t i e → e ≤ n → Ordered (forestOf t i e)
-  unfolding headAt spotAt
-  part-ordered p = induct (λ i e. e ≤ n → Ordered (forestOf t i e)) t
-      (λ i e h b. rw (forest-none t i e h) tt)
-      (λ i e p lt a c b. let d = ended p lt in rw (forest-node p lt) (node-ordered i (omega arith), (a (omega arith), c b))) p
+  node-own : (i : ℕ) → i < nodeCount t → Own t (headAt t i)
+  node-own i h =
+      let few = s .few-nodes in
+      let e : headAt t i .number ≡ i = number-own t i (omega arith) in
+      record { below = omega arith; there = rw e (head-spot t i) }
 
-pub tree-ordered : (t : List ℕ) (f : Facts) → judged t ≡ Valid f → Ordered (treeOf t)
-unfolding treeOf
-tree-ordered t f v = let s = sound t f v in part-ordered t (nodeCount t) (valueCount t) (s .none6) (whole-part t f s) (omega arith)
+  pub tree-straight : Throughout Straight (treeOf t)
+  tree-straight = tree-held Straight node-straight
+
+  pub tree-own : Throughout (Own t) (treeOf t)
+  tree-own = tree-held (Own t) node-own

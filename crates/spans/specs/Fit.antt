@@ -5,7 +5,6 @@ use mathlib.Core.Path.{_≡_}
 use mathlib.Core.Bool.{Bool, true, false}
 use mathlib.Core.List.{List, [], _∷_}
 use lib.Dec.{eqb}
-use Rattle.tree.specs.Forest.{Forest, none, node}
 use Rattle.rules.specs.Record.{Rec, Span}
 use Rattle.rules.specs.Joined.{codes}
 
@@ -28,8 +27,3 @@ pub record Fit (r : Rec) : Type 0 where
 abbrev pub Each : {A : Type 0} → (A → Type 0) → List A → Type 0
 Each P [] = Unit {0}
 Each P (x ∷ xs) = P x × Each P xs
-
--- no node's span ends before it begins
-abbrev pub Ordered : Forest → Type 0
-Ordered none = Unit {0}
-Ordered (node h k s) = (h .spot .begin ≤ h .spot .end) × (Ordered k × Ordered s)

@@ -56,7 +56,9 @@ record-word o (suc (suc (suc (suc zero)))) h = refl
 record-word o (suc (suc (suc (suc (suc zero))))) h = refl
 record-word o (suc (suc (suc (suc (suc (suc zero)))))) h = refl
 record-word o (suc (suc (suc (suc (suc (suc (suc zero))))))) h = refl
-record-word o (suc (suc (suc (suc (suc (suc (suc (suc k)))))))) h = absurd (omega arith)
+record-word o (suc (suc (suc (suc (suc (suc (suc (suc zero)))))))) h = refl
+record-word o (suc (suc (suc (suc (suc (suc (suc (suc (suc zero))))))))) h = refl
+record-word o (suc (suc (suc (suc (suc (suc (suc (suc (suc (suc k)))))))))) h = absurd (omega arith)
 
 -- the record that begins at word i of the room, word k of it taken off
 pub record-next : (room : List ℕ) (i k : ℕ) → k < width

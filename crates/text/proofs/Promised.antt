@@ -62,7 +62,7 @@ module _ (asked : Bool) (mode : Mode) (t work room out : List ℕ) (r : ℕ) (ou
         h m .1
         ∙ ap (λ (x : List ℕ). x ++ line) (sym (text-lengths asked mode t work work′ room room′ w o))
 
--- "It prints each record's eight numbers, then total and the count", of the list that the rules give
+-- "It prints each record's .. numbers, then total and the count", of the list that the rules give
 pub text-lists : (mode : Mode) (t work room : List ℕ) (f : Facts) → judged t ≡ Valid f → work-words ≤ length work
     → width * length (lint-list mode t) ≤ length room → text-of false mode t work room ≡ listing (lint-list mode t)
 unfolding text-of told counts

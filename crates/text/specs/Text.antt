@@ -24,7 +24,7 @@ unfoldable pub line : List ℕ → List ℕ
 line [] = []
 line (n ∷ ns) = decimal n ++ (after ns ∷ line ns)
 
--- "It prints each record's eight numbers"
+-- "It prints each record's eight numbers"; 02, §4: "the listing prints ten numbers"
 unfoldable pub records : List Rec → List ℕ
 records [] = []
 records (r ∷ rs) = line (words r) ++ records rs

@@ -1,8 +1,10 @@
 -- How large the fields of a node are in a list of bytes. Assumes nothing.
 use Prim.Native.Nat.{ℕ, _+_, _<_}
 use native.Mathlib.Omega.{arith}
+use mathlib.Core.Path.{_≡_}
 use mathlib.Core.List.{List}
 use lib.ListN.{getD}
+use borrow.Author.Tests.{lt-ltb}
 use Rattle.tree.specs.Bytes.{u16At, u32At, nodeAt, kindAt, roleAt, sizeAt, beginAt, endAt, valueAt}
 use Rattle.tree.specs.Forest.{Head, Forest, none, node, spotAt, headAt, forestOf}
 use Rattle.tree.specs.code.Part.{Part}
@@ -51,3 +53,8 @@ module _ (t : List ℕ) (bytes : (k : ℕ) → getD t k 0 < 256) where
   part-small p =
       induct (λ i e. Small (forestOf t i e)) t (λ i e h. rw (forest-none t i e h) small-none)
       (λ i e p lt u v. rw (forest-node p lt) (small-node (value-low i) u v)) p
+
+-- a node's number is the one that its head has
+pub number-own : (t : List ℕ) (i : ℕ) → i < 65535 → headAt t i .number ≡ i
+unfolding headAt
+number-own t i h = rw (lt-ltb i 65535 h)

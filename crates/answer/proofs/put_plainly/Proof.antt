@@ -1,4 +1,5 @@
-use Rattle.answer.specs.Note.{recOf, spanOf, valueOf}
+use Rattle.tree.specs.Forest.{headAt}
+use Rattle.answer.specs.Note.{recOf, spanOf, valueOf, nodeOf}
 use borrow.Author.Needs.{needs}
 use Rattle.answer.proofs.put_plainly.Statement.{statement}
 use Rattle.answer.proofs.put_plainly.Tie as tie
@@ -16,7 +17,7 @@ same-length c = search needs
 
 -- src/lib.rt:160:1
 returns : tie.Need-returns
-unfolding recOf spanOf valueOf
+unfolding headAt recOf spanOf valueOf nodeOf
 returns c =
     c .before .before .put .ensures
 

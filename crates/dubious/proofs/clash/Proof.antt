@@ -1,6 +1,7 @@
+use Rattle.tree.specs.Forest.{headAt}
 use mathlib.Core.Path.{sym, _∙_}
 use Rattle.answer.specs.Page.{page}
-use Rattle.answer.specs.Note.{recOf, spanOf, valueOf}
+use Rattle.answer.specs.Note.{recOf, spanOf, valueOf, nodeOf}
 use Rattle.dubious.proofs.Steps.{clash-no, clash-new, clash-put}
 use borrow.Author.Needs.{needs}
 use Rattle.dubious.proofs.clash.Statement.{statement}
@@ -34,7 +35,7 @@ same-length c = search needs
 
 -- src/lib.rt:100:13
 returns : tie.Need-returns
-unfolding recOf spanOf valueOf
+unfolding headAt recOf spanOf valueOf nodeOf
 returns c =
     clash-put (c .before .before .before .before .before .before .before .before .before .before .before .before .args .numbers .now) (c .before .before .before .before .before .before .before .before .before .before .before .before .args .t .now) (c .before .before .before .before .before .before .before .before .before .before .before .before .args .i) (c .before .before .before .before .before .before .before .before .before .before .before .before .args .j) (page (c .before .before .before .before .before .before .before .before .before .before .before .before .args .out .now) (c .before .before .before .before .before .before .before .before .before .before .before .before .args .s)) (c .before .before .before .before .before .before .previous .result) (c .before .before .before .before .before .before .previous .ensures) (c .before .before .before .before .before .if2 .taken) (sym (c .before .before .before .before .before .before .before .before .to-key .ensures) ∙ c .before .before .before .before .before .before .before .if1 .taken) (rw (c .before .before .before .likeness .ensures) at (c .before .before .put .ensures))
 

@@ -1,8 +1,9 @@
+use Rattle.tree.specs.Forest.{headAt}
 use native.Mathlib.Omega.{arith}
 use mathlib.Core.Path.{sym, ap, _∙_}
 use Prim.Native.Nat.{ℕ, _+_}
 use Rattle.answer.specs.Page.{page}
-use Rattle.answer.specs.Note.{recOf, spanOf, valueOf}
+use Rattle.answer.specs.Note.{recOf, spanOf, valueOf, nodeOf}
 use Rattle.dubious.proofs.Steps.{idle-no, idle-absent, idle-other, idle-put}
 use borrow.Author.Needs.{needs}
 use Rattle.dubious.proofs.stmt.Statement.{statement}
@@ -65,7 +66,7 @@ same-length c = search needs
 
 -- src/lib.rt:155:1
 returns-4 : tie.Need-returns-4
-unfolding recOf spanOf valueOf
+unfolding headAt recOf spanOf valueOf nodeOf
 returns-4 c =
     idle-put (c .before .before .before .before .before .before .before .before .before .before .before .before .before .args .t .now) (c .before .before .before .before .before .before .before .before .before .before .before .before .before .args .i) (c .before .before .before .before .before .before .before .before .before .before .before .before .before .args .i + c .before .before .before .before .before .before .before .before .size-at .result) (c .before .before .before .before .before .before .before .child-of .result) (c .before .before .before .before .before .before .before .before .before .before .before .before .before .pre) (page (c .before .before .before .before .before .before .before .before .before .before .before .before .before .args .out .now) (c .before .before .before .before .before .before .before .before .before .before .before .before .before .args .s)) (ap (λ (x : ℕ). c .before .before .before .before .before .before .before .before .before .before .before .before .before .args .i + x) (c .before .before .before .before .before .before .before .before .size-at .ensures .0)) (c .before .before .before .before .before .before .before .child-of .ensures) (sym (c .before .before .before .before .before .before .before .before .before .before .kind-at .ensures .0) ∙ c .before .before .before .before .before .before .before .before .before .if1 .left) (c .before .before .before .before .before .before .if2 .left) (sym (c .before .before .before .before .before .kind-at2 .ensures .0) ∙ c .before .before .before .before .if3 .left) (c .before .before .put .ensures)
 

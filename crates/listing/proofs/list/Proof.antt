@@ -33,7 +33,8 @@ text-requires : tie.Need-text-requires
 text-requires c κs = search needs
 
 array-share-prefix-page : tie.Need-array-share-prefix-page
-array-share-prefix-page c = search needs
+array-share-prefix-page c =
+    omega (arith, c .before .before .before .text .ensures .1, length-replicate {A = ℕ} (width * 2048) 0)
 
 slice-aggregate-hand : tie.Need-slice-aggregate-hand
 slice-aggregate-hand c =

@@ -79,12 +79,30 @@ mul-t32 c = search needs
 shared-slice-read-t34 : tie.Need-shared-slice-read-t34
 shared-slice-read-t34 c = search needs
 
+add-t35 : tie.Need-add-t35
+add-t35 c = search needs
+
+mul-t36 : tie.Need-mul-t36
+mul-t36 c = search needs
+
+shared-slice-read-t38 : tie.Need-shared-slice-read-t38
+shared-slice-read-t38 c = search needs
+
+add-t39 : tie.Need-add-t39
+add-t39 c = search needs
+
+mul-t40 : tie.Need-mul-t40
+mul-t40 c = search needs
+
+shared-slice-read-t42 : tie.Need-shared-slice-read-t42
+shared-slice-read-t42 c = search needs
+
 returns : tie.Need-returns
 returns c =
-    let l = c .before .before .before .before .before .before .before .before .args .list .now in
-    let k = c .before .before .before .before .before .before .before .before .args .k in
+    let l = c .before .before .before .before .before .before .before .before .before .before .args .list .now in
+    let k = c .before .before .before .before .before .before .before .before .before .before .args .k in
     let z : width * k + 0 ≡ width * k = omega arith in
-    rw (words-at l k 0, words-at l k 1, words-at l k 2, words-at l k 3, words-at l k 4, words-at l k 5, words-at l k 6, words-at l k 7, z)
+    rw (words-at l k 0, words-at l k 1, words-at l k 2, words-at l k 3, words-at l k 4, words-at l k 5, words-at l k 6, words-at l k 7, words-at l k 8, words-at l k 9, z)
 
 pub record-at-spec : {M : Type 1} → statement M
 record-at-spec =
@@ -114,4 +132,10 @@ record-at-spec =
     add-t31
     mul-t32
     shared-slice-read-t34
+    add-t35
+    mul-t36
+    shared-slice-read-t38
+    add-t39
+    mul-t40
+    shared-slice-read-t42
     returns)

@@ -4,7 +4,8 @@ use mathlib.Core.Path.{_≡_, refl, sym, ap, _∙_}
 use lib.ListN.{length}
 use Rattle.answer.specs.Page.{page, writes}
 use Rattle.answer.proofs.Laws.{writes-none}
-use Rattle.names.proofs.Telling.{recordsOf, records-none, records-next}
+use Rattle.names.specs.Records.{recordsOf}
+use Rattle.names.proofs.Telling.{records-none, records-next}
 use Rattle.names.proofs.records.Statement.{statement}
 use Rattle.names.proofs.records.Tie as tie
 

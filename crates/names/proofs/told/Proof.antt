@@ -1,6 +1,7 @@
 use mathlib.Core.Path.{sym}
-use Rattle.answer.specs.Note.{recOf, spanOf, valueOf}
-use Rattle.scope.specs.State.{warningIn}
+use Rattle.tree.specs.Forest.{headAt}
+use Rattle.answer.specs.Note.{recOf, spanOf, valueOf, nodeOf}
+use Rattle.names.specs.Records.{recordIn}
 use borrow.Author.Needs.{needs}
 use Rattle.names.proofs.told.Statement.{statement}
 use Rattle.names.proofs.told.Tie as tie
@@ -27,7 +28,7 @@ same-length : tie.Need-same-length
 same-length c = search needs
 
 returns : tie.Need-returns
-unfolding recOf spanOf valueOf warningIn
+unfolding headAt recOf spanOf valueOf nodeOf recordIn
 returns c =
     rw (sym ((c .before .before .before .before .before .word-at) .ensures .0), sym ((c .before .before .before .before .word-at2) .ensures .0)) ((c .before .before .put) .ensures)
 

@@ -288,8 +288,8 @@ module _ (underscore : ℕ → Bool) where
   abbrev pub tour : ℕ → Cmd → House → House
   tour depth skip m = m
   tour depth (a ⨟ b) m = tour depth b (tour depth a m)
-  tour depth (use-of s) m = use-level s m (level-at (s .value) (m .here .entries))
-  tour depth (set-of o s) m = record { here = set-room o s (m .here); above = m .above; out = m .out }
+  tour depth (use-of h) m = use-level (h .spot) m (level-at (h .spot .value) (m .here .entries))
+  tour depth (set-of o h) m = record { here = set-room o (h .spot) (m .here); above = m .above; out = m .out }
   tour depth (stop why) m = record { here = stop-room (abort-of why) (m .here); above = m .above; out = m .out }
   tour depth (branch a b) m = branch-house (tour depth a) (tour depth b) m
   tour depth (loop c) m = rounds-house (leb (suc depth) 5) (tour (suc depth) c) m

@@ -1,5 +1,5 @@
 use borrow.Author.Needs.{needs}
-use Rattle.tree.specs.Forest.{spotAt}
+use Rattle.tree.specs.Forest.{headAt}
 use Rattle.rules.specs.Record.{plainly}
 use Rattle.answer.specs.Page.{page}
 use Rattle.flow.proofs.Steps.{wrote-none, wrote-one}
@@ -14,7 +14,7 @@ same-length c = search needs
 
 returns : tie.Need-returns
 returns c =
-    wrote-one (page (c .before .before .before .before .before .before .before .args .out .now) (c .before .before .before .before .before .before .before .args .s)) (plainly 11 (spotAt (c .before .before .before .before .before .before .before .args .t .now) (c .before .before .before .before .before .before .before .args .i))) (c .before .before .put-plainly .ensures) (rw (c .before .before .before .before .if1 .taken))
+    wrote-one (page (c .before .before .before .before .before .before .before .args .out .now) (c .before .before .before .before .before .before .before .args .s)) (plainly 11 (headAt (c .before .before .before .before .before .before .before .args .t .now) (c .before .before .before .before .before .before .before .args .i))) (c .before .before .put-plainly .ensures) (rw (c .before .before .before .before .if1 .taken))
 
 returns-2 : tie.Need-returns-2
 returns-2 c =

@@ -2,7 +2,7 @@ use Prim.Native.Nat.{_-_}
 use mathlib.Core.Path.{sym, _∙_}
 use Rattle.tree.specs.Forest.{headAt, spotAt}
 use Rattle.answer.specs.Page.{page}
-use Rattle.answer.specs.Note.{recOf, spanOf, valueOf}
+use Rattle.answer.specs.Note.{recOf, spanOf, valueOf, nodeOf}
 use Rattle.flow.proofs.ReturnsLaws.{bare-no, bare-valued, bare-put}
 use borrow.Author.Needs.{needs}
 use Rattle.flow.proofs.returns.bare_return.Statement.{statement}
@@ -36,9 +36,9 @@ same-length c = search needs
 
 -- src/returns.rt:134:1
 returns-3 : tie.Need-returns-3
-unfolding recOf spanOf valueOf headAt
+unfolding recOf spanOf valueOf nodeOf headAt
 returns-3 c =
-    bare-put (c .before .before .before .before .before .before .before .before .before .before .args .t .now) (c .before .before .before .before .before .before .before .before .before .before .args .j) (headAt (c .before .before .before .before .before .before .before .before .before .before .args .t .now) (c .before .before .before .before .before .before .before .before .before .before .args .i)) (spotAt (c .before .before .before .before .before .before .before .before .before .before .args .t .now) (c .before .before .before .before .before .before .before .before .before .before .args .name)) (spotAt (c .before .before .before .before .before .before .before .before .before .before .args .t .now) (c .before .before .before .before .before .before .before .before .before .before .args .why)) (page (c .before .before .before .before .before .before .before .before .before .before .args .out .now) (c .before .before .before .before .before .before .before .before .before .before .args .s)) (sym (c .before .before .before .before .before .before .before .kind-at .ensures .0) ∙ c .before .before .before .before .before .before .if1 .left) (sym (c .before .before .before .before .before .is-valued .ensures) ∙ c .before .before .before .before .if2 .left) (c .before .before .put .ensures)
+    bare-put (c .before .before .before .before .before .before .before .before .before .before .args .t .now) (c .before .before .before .before .before .before .before .before .before .before .args .j) (headAt (c .before .before .before .before .before .before .before .before .before .before .args .t .now) (c .before .before .before .before .before .before .before .before .before .before .args .i)) (spotAt (c .before .before .before .before .before .before .before .before .before .before .args .t .now) (c .before .before .before .before .before .before .before .before .before .before .args .name)) (headAt (c .before .before .before .before .before .before .before .before .before .before .args .t .now) (c .before .before .before .before .before .before .before .before .before .before .args .why)) (page (c .before .before .before .before .before .before .before .before .before .before .args .out .now) (c .before .before .before .before .before .before .before .before .before .before .args .s)) (sym (c .before .before .before .before .before .before .before .kind-at .ensures .0) ∙ c .before .before .before .before .before .before .if1 .left) (sym (c .before .before .before .before .before .is-valued .ensures) ∙ c .before .before .before .before .if2 .left) (c .before .before .put .ensures)
 
 pub bare-return-spec : {M : Type 1} → statement M
 bare-return-spec =

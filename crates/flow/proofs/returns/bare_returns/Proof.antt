@@ -10,7 +10,7 @@ use Rattle.flow.proofs.returns.bare_returns.Statement.{statement}
 use Rattle.flow.proofs.returns.bare_returns.Tie as tie
 
 abbrev Inv-loop : tie.InvT-loop
-Inv-loop t i name why b e out₀ r₀ j₀ out r j = Tidy t j e × Going out₀ r₀ (bare-recs (headAt t i) (spotAt t name) (spotAt t why) (returns-in everything (forestOf t b e))) out r (bare-recs (headAt t i) (spotAt t name) (spotAt t why) (returns-in everything (forestOf t j e)))
+Inv-loop t i name why b e out₀ r₀ j₀ out r j = Tidy t j e × Going out₀ r₀ (bare-recs (headAt t i) (spotAt t name) (headAt t why) (returns-in everything (forestOf t b e))) out r (bare-recs (headAt t i) (spotAt t name) (headAt t why) (returns-in everything (forestOf t j e)))
 
 abbrev μ-loop : tie.MeasureT-loop
 μ-loop t i name why b e out₀ r₀ j₀ out r j = e - j
@@ -38,7 +38,7 @@ loop-less c =
 -- src/returns.rt:182:5
 loop-again : tie.Need-loop-again Inv-loop μ-loop
 loop-again c =
-    (tidy-later (c .before .before .before .before .before .before .loop .inv .0) (omega (arith, c .next .ensures)), going-on (c .before .before .before .before .before .before .loop .inv .1) _ _ _ _ (c .before .before .before .bare-return .ensures) (bare-next (headAt (c .before .before .before .before .before .before .before .before .before .args .t .now) (c .before .before .before .before .before .before .before .before .before .args .i)) (spotAt (c .before .before .before .before .before .before .before .before .before .args .t .now) (c .before .before .before .before .before .before .before .before .before .args .name)) (spotAt (c .before .before .before .before .before .before .before .before .before .args .t .now) (c .before .before .before .before .before .before .before .before .before .args .why)) (c .before .before .before .before .before .before .loop .inv .0) (c .before .before .before .before .before .loop-test .taken) _ (c .next .ensures)))
+    (tidy-later (c .before .before .before .before .before .before .loop .inv .0) (omega (arith, c .next .ensures)), going-on (c .before .before .before .before .before .before .loop .inv .1) _ _ _ _ (c .before .before .before .bare-return .ensures) (bare-next (headAt (c .before .before .before .before .before .before .before .before .before .args .t .now) (c .before .before .before .before .before .before .before .before .before .args .i)) (spotAt (c .before .before .before .before .before .before .before .before .before .args .t .now) (c .before .before .before .before .before .before .before .before .before .args .name)) (headAt (c .before .before .before .before .before .before .before .before .before .args .t .now) (c .before .before .before .before .before .before .before .before .before .args .why)) (c .before .before .before .before .before .before .loop .inv .0) (c .before .before .before .before .before .loop-test .taken) _ (c .next .ensures)))
 
 -- src/returns.rt:167:1
 same-length : tie.Need-same-length Inv-loop μ-loop

@@ -2,7 +2,7 @@ use Prim.Native.Nat.{_-_}
 use mathlib.Core.Path.{sym, _∙_}
 use Rattle.tree.specs.Forest.{headAt}
 use Rattle.answer.specs.Page.{page}
-use Rattle.answer.specs.Note.{recOf, spanOf, valueOf}
+use Rattle.answer.specs.Note.{recOf, spanOf, valueOf, nodeOf}
 use Rattle.flow.proofs.ReturnsLaws.{whole-kids, unless-so, unless-put}
 use borrow.Author.Needs.{needs}
 use Rattle.flow.proofs.returns.missing_return.Statement.{statement}
@@ -40,7 +40,7 @@ same-length c = search needs
 
 -- src/returns.rt:104:1
 returns-2 : tie.Need-returns-2
-unfolding recOf spanOf valueOf headAt
+unfolding recOf spanOf valueOf nodeOf headAt
 returns-2 c =
     unless-put _ _ (page (c .before .before .before .before .before .before .before .before .before .args .out .now) (c .before .before .before .before .before .before .before .before .before .args .s)) (sym (rw (c .before .before .before .before .before .before .size-at .ensures .0) at (c .before .before .before .before .before .final-return .ensures)) ∙ c .before .before .before .before .if1 .left) (c .before .before .put .ensures)
 

@@ -1,5 +1,6 @@
+use Rattle.tree.specs.Forest.{headAt}
 use native.Mathlib.Omega.{arith}
-use Rattle.answer.specs.Note.{recOf, spanOf, valueOf}
+use Rattle.answer.specs.Note.{recOf, spanOf, valueOf, nodeOf}
 use borrow.Author.Needs.{needs}
 use Rattle.incompatible.proofs.assigns.put_again.Statement.{statement}
 use Rattle.incompatible.proofs.assigns.put_again.Tie as tie
@@ -17,7 +18,7 @@ same-length c = search needs
 
 -- src/assigns.rt:86:1
 returns : tie.Need-returns
-unfolding recOf spanOf valueOf
+unfolding headAt recOf spanOf valueOf nodeOf
 returns c =
     c .before .before .put .ensures
 

@@ -1,3 +1,4 @@
+use Rattle.tree.specs.Forest.{headAt}
 use native.Mathlib.Omega.{arith}
 use Prim.Native.Nat.{ℕ, _+_}
 use mathlib.Core.Path.{sym, ap, _∙_}
@@ -5,7 +6,7 @@ use mathlib.Core.Bool.{_||_}
 use lib.Dec.{eqb}
 use Rattle.tree.proofs.Laws.{kids}
 use Rattle.answer.specs.Page.{page}
-use Rattle.answer.specs.Note.{recOf, spanOf, valueOf}
+use Rattle.answer.specs.Note.{recOf, spanOf, valueOf, nodeOf}
 use Rattle.incompatible.proofs.Checks.{check-no, check-left, check-right, check-put}
 use borrow.Author.Needs.{needs}
 use Rattle.incompatible.proofs.types.match_bad_type_equality.Statement.{statement}
@@ -72,7 +73,7 @@ same-length c = search needs
 
 -- src/types.rt:142:17
 returns : tie.Need-returns
-unfolding recOf spanOf valueOf
+unfolding headAt recOf spanOf valueOf nodeOf
 returns c =
     check-put (c .before .before .before .before .before .before .before .before .before .before .before .before .before .before .before .args .names) (c .before .before .before .before .before .before .before .before .before .before .before .before .before .before .before .args .t .now) (c .before .before .before .before .before .before .before .before .before .before .before .before .before .before .before .args .i) (page (c .before .before .before .before .before .before .before .before .before .before .before .before .before .before .before .args .out .now) (c .before .before .before .before .before .before .before .before .before .before .before .before .before .before .before .args .s)) (ap (λ (x : ℕ). c .before .before .before .before .before .before .before .before .before .before .before .before .before .before .before .args .i + x) (c .before .before .before .before .before .before .before .before .before .size-at .ensures .0)) (c .before .before .before .child-of .ensures) (c .before .before .before .before .before .before .before .before .before .before .before .before .before .before .before .pre)
     (sym (c .before .before .before .before .before .before .before .before .before .before .if1 .taken) ∙ c .before .before .before .before .before .before .before .before .before .before .before .compares .ensures ∙ ap (λ (k : ℕ). eqb 31 k || eqb 32 k) (c .before .before .before .before .before .before .before .before .before .before .before .before .kind-at .ensures .0)) (sym (c .before .before .before .before .before .before .before .if2 .taken) ∙ c .before .before .before .before .before .before .before .before .is-type-call .ensures) (sym (c .before .before .before .before .before .if3 .taken) ∙ c .before .before .before .before .before .before .lookup-type .ensures) (c .before .before .put .ensures)
