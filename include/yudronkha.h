@@ -31,7 +31,10 @@ extern "C" {
 
 /* Version 3.0.0 of this header, as major * 10000 + minor * 100 + patch. Major goes up where the layout of a call, a record or a
  * report changes, or a number gets another meaning, so that a program has to be changed; minor where a call, a code or a refusal
- * is added or a size below grows, so that it has to be compiled anew at most; patch with any other change. */
+ * is added or a size below grows, so that it has to be compiled anew at most; patch with any other change.
+ * From 2.0.0: a record has ten words, the first eight as they were. A program that steps through the answer room and sizes it by
+ * YUDRONKHA_RECORD_WORDS is compiled anew; one that has an 8 there is changed (81,920 words were room for 10,240 records). No
+ * call's parameters, no other number and no report changed. */
 #define YUDRONKHA_VERSION 30000
 
 /* Sizes, in elements of each room. */
@@ -80,7 +83,7 @@ enum yudronkha_number {
  * them; the second node is that of the second span. */
 enum yudronkha_code {
     /* names; at a node that holds the name (an identifier, a target, a parameter or a loaded name); value: the name. Where several
-     * nodes share span and name, the node is the one of them that document 01's names walk uses or sets first */
+     * nodes share span and name, the node is the one of them that the names walk uses or sets first (docs/TREE.md, "What comes back") */
     YUDRONKHA_UNUSED_LOAD = 1,
     YUDRONKHA_UNUSED_ASSIGN = 2,
     YUDRONKHA_UNUSED_ARGUMENT = 3,

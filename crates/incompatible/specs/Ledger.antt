@@ -24,12 +24,12 @@ pub record Ledger : Type 0 where
 -- ---- a deed: what it has told, and what is known after it
 
 abbrev pub told-by : Option First → Head → List Rec
-told-by none s = []
-told-by (some d) s = again (d .head) s ∷ []
+told-by none h = []
+told-by (some d) h = again (d .head) h ∷ []
 
 abbrev pub ledger-by : Option First → Bool → Head → Ledger → Ledger
-ledger-by none l s k = record { first = λ x. elim (eqb x (s .spot .value)) [ true ↦ some (record { head = s; loaded = l }) | false ↦ k .first x ]; spent = k .spent }
-ledger-by (some d) l s k = k
+ledger-by none l h k = record { first = λ x. elim (eqb x (h .spot .value)) [ true ↦ some (record { head = h; loaded = l }) | false ↦ k .first x ]; spent = k .spent }
+ledger-by (some d) l h k = k
 
 abbrev pub free-now : Ledger → ℕ → Bool
 free-now k v = may-repeat once (k .first v) (k .spent v)
@@ -38,12 +38,12 @@ abbrev pub spend : Ledger → ℕ → Ledger
 spend k v = record { first = k .first; spent = λ x. elim (eqb x v) [ true ↦ suc (k .spent x) | false ↦ k .spent x ] }
 
 abbrev pub told : Deed → Ledger → List Rec
-told (defines l s) k = told-by (k .first (s .spot .value)) s
-told (repeats s) k = elim (free-now k (s .spot .value)) [ true ↦ [] | false ↦ told-by (k .first (s .spot .value)) s ]
+told (defines l h) k = told-by (k .first (h .spot .value)) h
+told (repeats h) k = elim (free-now k (h .spot .value)) [ true ↦ [] | false ↦ told-by (k .first (h .spot .value)) h ]
 
 abbrev pub knows : Deed → Ledger → Ledger
-knows (defines l s) k = ledger-by (k .first (s .spot .value)) l s k
-knows (repeats s) k = elim (free-now k (s .spot .value)) [ true ↦ spend k (s .spot .value) | false ↦ ledger-by (k .first (s .spot .value)) false s k ]
+knows (defines l h) k = ledger-by (k .first (h .spot .value)) l h k
+knows (repeats h) k = elim (free-now k (h .spot .value)) [ true ↦ spend k (h .spot .value) | false ↦ ledger-by (k .first (h .spot .value)) false h k ]
 
 -- deeds one after the other
 unfoldable pub tells : List Deed → Ledger → List Rec

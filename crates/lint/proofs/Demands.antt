@@ -74,7 +74,7 @@ module _ (mode : Mode) (t work room : List ℕ) (a : Answer) (room′ work′ : 
       (kept-in (file-demand3 t f v p) (λ r m. Memᴰ·append-left (flow-list t ++ rest) m)
       (λ r m. Memᴰ·append-right (names-list t) (Memᴰ·append-left rest m)))
 
-  -- 02, §4: the numbers of each record that the call leaves are nodes of the file that have its spans
+  -- 02, §4: the numbers of each record that the call leaves are nodes of the file that have its first and second span
   pub lint-placed : (n : ℕ) → a .outcome ≡ Listed n → Each (Placed t) (records-in n room′)
   lint-placed n i =
       let v = valid-where-listed (lint-list mode t) t work room no-tally a room′ work′ gives n i in

@@ -1,4 +1,5 @@
--- What the words say after all: each place has the first node of its span and name that the walk meets. Assumes nothing.
+-- What the words say after all: each place has the first node of its span and name that the walk meets, or its own where it meets none.
+-- Assumes nothing.
 use Prim.Native.Nat.{ℕ, zero, suc, _+_, _-_, _≤_, _<_}
 use native.Mathlib.Omega.{arith}
 use native.Mathlib.Decide.{ℕ-discrete as decEq, decLt}
@@ -11,12 +12,12 @@ use lib.Seq.{getD-set-same, getD-set-other}
 use Rattle.tree.specs.Bytes.{pick, beginAt, endAt, valueAt}
 use Rattle.tree.specs.Forest.{Spot, Head, spotAt, forestOf}
 use Rattle.tree.specs.code.Part.{Part}
-use Rattle.rules.specs.Names.{same, met, first-met}
+use Rattle.rules.specs.Names.{same, met, first-or, first-met}
 use Rattle.rules.specs.Meeting.{is-met}
 use Rattle.rules.specs.Order.{of-role, takes}
 use Rattle.rules.proofs.Bools.{and-left, and-right}
 use Rattle.meeting.specs.Asked.{never, ask-of, asked-as, asked}
-use Rattle.meeting.specs.Words.{bucketOf, emptied, linked, touched, along, meetWords, meets, firstWords, first-or}
+use Rattle.meeting.specs.Words.{bucketOf, emptied, linked, touched, along, meetWords, meets, firstWords}
 pub use Rattle.meeting.proofs.Siblings.{met-any}
 use Rattle.meeting.proofs.Steps.{along-end, along-next}
 use Rattle.meeting.proofs.Heads.{Owns, part-asked}
@@ -326,7 +327,7 @@ module _ (t : List ℕ) (n : ℕ) (w : List ℕ) (few : n ≤ 1024) (room : 5120
       meets-kept t w (linked t (emptied w 1024) n) n (of-place t w) few room ties (asked 0 (forestOf t 0 nodes)) (linked t (emptied w 1024) n) start k a b
       ∙ ties .kept k b
 
-  -- each place has the first node of its span and name that the walk meets
+  -- each place has the first node of its span and name that the walk meets, or its own
   pub first-placed : (nodes : ℕ) → Part t 0 nodes → (k : ℕ) → k < n
       → getD (firstWords t nodes n w) k 0 ≡ first-or (getD w k 0) (spotAt t (getD w k 0)) (met (takes never (of-role 0) (forestOf t 0 nodes)))
   unfolding firstWords asked asked-as ask-of

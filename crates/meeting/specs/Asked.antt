@@ -24,7 +24,8 @@ never v = false
 abbrev pub ask-rows : List (ℕ × Ask)
 ask-rows = (9, visits every) ∷ (10, visits first-over) ∷ (11, visits first-bound) ∷ (12, visits clauses) ∷ []
 
--- by number: 0 to 8, those of the role; 9, every one; 10 to 12, a comprehension's parts; from 16 on, the names that those of role 0 on bind
+-- by number: 0 to 8, those of the role; 9, every one; 10 to 12, a comprehension's parts; 13 to 15, nothing; from 16 on, the names
+-- that those of role 0 on bind
 unfoldable pub ask-of : ℕ → Ask
 ask-of a = pick (leb 16 a) (names (a - 16)) (pick (leb 13 a) no-ask (look a ask-rows (visits (of-role a))))
 
@@ -102,16 +103,16 @@ plan-rows = (49, bind-row nothing) ∷ (50, bind-row (one Sort.assign)) ∷ (51,
 unfoldable pub plan : ℕ → List ℕ
 plan r = pick (ltb r 49) (form-row (look r forms Form.plain)) (look r plan-rows [])
 
--- what one number of a row has met: the node itself, or what is asked of its children
+-- what the walk meets by one number of a row: the node itself, or what is asked of its children
 unfoldable pub below : ℕ → Head → Forest → List Head
 below p h k = look p ((13, []) ∷ (14, h ∷ []) ∷ []) (asked p k)
 
--- what a row has met
+-- what it meets by a row
 unfoldable pub run : List ℕ → Head → Forest → List Head
 run [] h k = []
 run (p ∷ ps) h k = below p h k ++ run ps h k
 
--- what a node has met, where something is asked of it and its siblings
+-- what it meets at a node, where something is asked of it and its siblings
 unfoldable pub step : Ask → Head → Forest → List Head
 step q h k = pick (wanted q (h .role)) (run (row q (h .kind)) h k) []
 

@@ -6,7 +6,7 @@ use mathlib.Core.List.{List, [], _∷_}
 use lib.Dec.{eqb}
 use lib.ListN.{getD, set}
 use Rattle.tree.specs.Bytes.{pick, beginAt, endAt, valueAt}
-use Rattle.tree.specs.Forest.{Spot, Head, spotAt, forestOf}
+use Rattle.tree.specs.Forest.{Head, spotAt, forestOf}
 use Rattle.rules.specs.Names.{same}
 use Rattle.meeting.specs.Asked.{asked}
 
@@ -72,8 +72,3 @@ meets t n w (h ∷ hs) = meets t n (meetWords t n w (h .number)) hs
 -- the first n words' nodes, put in their buckets, then all that the walk of the file's nodes meets
 unfoldable pub firstWords : List ℕ → ℕ → ℕ → List ℕ → List ℕ
 firstWords t nodes n w = meets t n (linked t (emptied w 1024) n) (asked 0 (forestOf t 0 nodes))
-
--- the number of the first of these nodes that has this span and name; d: there is none
-abbrev pub first-or : ℕ → Spot → List Head → ℕ
-first-or d s [] = d
-first-or d s (h ∷ hs) = elim (same s (h .spot)) [ true ↦ h .number | false ↦ first-or d s hs ]

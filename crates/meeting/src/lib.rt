@@ -72,7 +72,7 @@ fn touch(t: &[u8], w: &mut [u16], k: usize, i: usize)
     }
 }
 
-// The places of a bucket, from p on; there are at most n.
+// The places of a bucket from place p - 1 on, at most n of them; p is 0 where there is none.
 fn along(t: &[u8], w: &mut [u16], n: usize, p: usize, i: usize)
     requires { ⌜ (p < 65536) × (i < 65536) ⌝ }
     ensures { λ _. ⌜ now (w .exit) ≡ alongWords n (now (t .entry)) (now (w .entry)) p i ⌝ }
@@ -98,7 +98,7 @@ pub(crate) fn meet(t: &[u8], w: &mut [u16], n: usize, i: usize)
     along(t, w, n, p, i);
 }
 
-// Each of the first n words, a node, becomes the first of its span and name that the names walk meets.
+// Each of the first n words, a node, becomes the first of its span and name that the names walk meets; it stays where that meets none.
 pub fn first_met(t: &[u8], nodes: usize, w: &mut [u16], n: usize)
     requires { ⌜ Part (now t) 0 nodes × (n ≤ 1024) ⌝ }
     ensures { λ _. ⌜ now (w .exit) ≡ firstWords (now (t .entry)) nodes n (now (w .entry)) ⌝ }

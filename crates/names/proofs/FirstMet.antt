@@ -3,8 +3,8 @@ use Prim.Native.Nat.{ℕ, zero, suc, _+_, _-_, _≤_, _<_}
 use native.Mathlib.Omega.{arith}
 use native.Mathlib.Decide.{decLt}
 use mathlib.Core.Path.{_≡_, refl, sym, ap, _∙_}
-use mathlib.Core.Bool.{Bool, true, false, not}
-use mathlib.Core.List.{List, [], _∷_, _++_, map}
+use mathlib.Core.Bool.{Bool, true, false}
+use mathlib.Core.List.{List, _∷_, _++_, map}
 use lib.Dec.{T, ltb}
 use lib.ListN.{length, getD, take, drop, length-append, length-drop}
 use lib.Seq.{length-take-le, getD-drop, getD-append-add}
@@ -14,9 +14,9 @@ use Rattle.tree.specs.Bytes.{pick}
 use Rattle.tree.specs.Forest.{Spot, Head, spotAt, headAt, forestOf}
 use Rattle.tree.specs.code.Part.{Part}
 use Rattle.tree.specs.Table.{tableOf, underscored, globalsOf}
-use Rattle.rules.specs.Record.{Rec, named-at}
+use Rattle.rules.specs.Record.{named-at}
 use Rattle.rules.specs.Order.{of-role, takes}
-use Rattle.rules.specs.Names.{Warning, met, first-met, told}
+use Rattle.rules.specs.Names.{met, first-met, told}
 use Rattle.rules.specs.Meeting.{is-met, Meets-first}
 use Rattle.rules.specs.code.Marks.{names-tour}
 use Rattle.rules.specs.Outcome.{work-words}
@@ -27,7 +27,7 @@ use Rattle.answer.proofs.Lent.{tail-lent, tail-back}
 use Rattle.scope.specs.Lists.{places, placesIn}
 use Rattle.scope.specs.State.{warningIn, outOf}
 use Rattle.meeting.specs.Asked.{never}
-use Rattle.meeting.specs.Words.{firstWords, first-or}
+use Rattle.meeting.specs.Words.{firstWords}
 use Rattle.meeting.proofs.First.{first-placed, first-kept, first-length, first-found, met-any}
 use Rattle.names.specs.Walk.{moduleOf, visitOf, wantOf}
 use Rattle.names.specs.Records.{recordIn, recordsOf, metWords}

@@ -17,6 +17,6 @@ recordIn t w k = named-at (getD w (4096 + k) 0) (headAt t (getD w (3072 + k) 0))
 unfoldable pub recordsOf : List ℕ → List ℕ → ℕ → List Rec
 recordsOf t w n = places (recordIn t w) 0 n
 
--- the words after each of the first r warned nodes became the first of its span and name that the walk of n nodes meets
+-- the words after each of the first r warned nodes became the first of its span and name that the walk of n nodes meets, or stayed
 unfoldable pub metWords : List ℕ → ℕ → List ℕ → ℕ → List ℕ
 metWords t n w r = pick (ltb 0 r) (take 3072 w ++ firstWords t n r (drop 3072 w)) w

@@ -49,8 +49,8 @@ fn walked(t: &[u8], n: usize, w: &mut [u16]) -> usize
     s.closed(t, w)
 }
 
-// Each of the r warned nodes becomes the first of its span and name that the walk of n nodes meets.
-fn met(t: &[u8], n: usize, w: &mut [u16], r: usize)
+// Each of the r warned nodes becomes the first of its span and name that the walk of n nodes meets; it stays where that meets none.
+fn first_nodes(t: &[u8], n: usize, w: &mut [u16], r: usize)
     requires { ⌜ Part (now t) 0 n × (r ≤ 1024) × (work-words ≤ length (now w)) ⌝ }
     ensures { λ _. ⌜ now (w .exit) ≡ metWords (now (t .entry)) n (now (w .entry)) r ⌝ }
 {
@@ -121,7 +121,7 @@ fn lint(t: &[u8], n: usize, w: &mut [u16], out: &mut [u32], tally: [usize; CODES
     ensures { λ r. ⌜ Answers (map (told (met (moduleOf (now (t .entry)) n))) (names-tour (underscored (tableOf (now (t .entry)))) (globalsOf (now (t .entry))) (moduleOf (now (t .entry)) n))) (now (out .entry)) tally r (now (out .exit)) × (now (w .exit) ≡ replicate (length (now (w .entry))) 0) ⌝ }
 {
     let r = walked(t, n, w);
-    met(t, n, w, r);
+    first_nodes(t, n, w, r);
     let a = answer_of(t, w, r, out, tally);
     clear(w);
     a

@@ -8,18 +8,16 @@ use mathlib.Core.List.{List, [], _∷_, _++_, append-nil, append-assoc}
 use mathlib.Core.Logic.{_⊎_, inl, inr}
 use mathlib.Core.Option.{Option}
 use lib.Dec.{leb, T}
-use Rattle.tree.specs.Forest.{Spot, Head, Forest, Forest.none as leaf, node}
-use Rattle.rules.specs.Record.{no-number}
-use Rattle.rules.specs.Order.{Form, form-of, Bind, one, several, nothing, bind-of, Cmd, skip, _⨟_, use-of, set-of, stop, branch, loop, scope, of-role, binds, takes, body, def-body}
-use Rattle.rules.specs.Names.{same, State, back-to, joined, unlooped, enter, leave, branch-of, same-state, round, rounds, walk, Warning, names, met, first-met}
+use Rattle.tree.specs.Forest.{Spot, Head, Forest}
+use Rattle.rules.specs.Order.{Form, form-of, Bind, one, several, nothing, bind-of, Cmd, skip, _⨟_, use-of, set-of, stop, branch, loop, scope, of-role, binds, takes, body}
+use Rattle.rules.specs.Names.{same, State, back-to, joined, unlooped, enter, leave, branch-of, same-state, round, rounds, walk, names, met, first-met}
 use Rattle.rules.specs.code.Marks.{names-tour}
 use Rattle.rules.specs.Runs.{Node, at as node-at, below as node-below, beside as node-beside, Body, of-module, of-def, Held, Reach, here, first, second, left, right, now, later, continued}
 use Rattle.rules.specs.Premises.{names-apart}
 use Rattle.rules.specs.Meeting.{is-met, Meets-first, Noted, with-state, branch-noted, same-noted, round-noted, rounds-noted, noting}
-use Rattle.rules.proofs.Bools.{or-left, or-right, or-case, nor-both, never}
+use Rattle.rules.proofs.Bools.{or-left, or-right}
 use Rattle.rules.proofs.Spots.{same-sound, same-exact}
 use Rattle.rules.proofs.Unique.{hit, ident-hit, bind-hit, me, count}
-use Rattle.rules.proofs.Demand.{Unique}
 use Rattle.rules.proofs.Valid.{unique-of}
 use Rattle.rules.proofs.Meets.{For-all, all-both, all-left, all-right, all-map, is-identifier, is-one, Holder, at, below, beside, met-holders, bound-holders}
 use Rattle.rules.proofs.Out.{tour-hold, names-hold}
@@ -202,7 +200,7 @@ module _ (u : ℕ → Bool) where
 
 -- ---- of a tree
 
--- each spot at which names warns is met
+-- each spot of a list of nodes is met in it
 met-of : (hs : List Head) → For-all (λ h. T (is-met hs (h .spot))) hs
 met-of hs = go hs (λ h t. t)
   where
@@ -213,6 +211,7 @@ met-of hs = go hs (λ h t. t)
       go xs (λ t m. f t (or-right (same t (x .spot)) (is-met xs t) m)),
     )
 
+-- EACH SPOT at which names warns is met.
 pub tour-met : (u : ℕ → Bool) (g : Option (ℕ → Bool)) (c : Cmd) → For-all (λ w. T (is-met (met c) (w .spot))) (names-tour u g c)
 tour-met u g c = tour-hold (is-met (met c)) u g c (met-of (met c))
 

@@ -326,11 +326,15 @@ met (branch a b) = met a ++ met b
 met (loop c) = met c
 met (scope c) = met c
 
--- 02, §4: "Where nodes share span and name, a names record has the one that the names walk meets first": the number of the first of
--- these nodes that has this span and name (none of them: no spot that names warns at, as warned-met of proofs/FirstMet shows)
+-- the number of the first of these nodes that has this span and name; d: none of them has
+abbrev pub first-or : ℕ → Spot → List Head → ℕ
+first-or d s [] = d
+first-or d s (h ∷ hs) = elim (same s (h .spot)) [ true ↦ h .number | false ↦ first-or d s hs ]
+
+-- 02, §4: "Where nodes share span and name, a names record has the one that the names walk meets first" (there is one for every spot
+-- that names warns at: warned-met of proofs/FirstMet)
 abbrev pub first-met : Spot → List Head → ℕ
-first-met s [] = no-number
-first-met s (h ∷ hs) = elim (same s (h .spot)) [ true ↦ h .number | false ↦ first-met s hs ]
+first-met s hs = first-or no-number s hs
 
 -- "Value: for 1 to 6 .. the name"; hs: the nodes that the walk meets
 abbrev pub told : List Head → Warning → Rec

@@ -29,8 +29,8 @@ use Rattle.spans.proofs.Made.{Throughout}
 abbrev pub Straight : Head → Type 0
 Straight h = h .spot .begin ≤ h .spot .end
 
--- a node of the file t that has its own number
-pub record Own (t : List ℕ) (h : Head) : Type 0 where
+-- a node of the file t: its span and value are those of the node of its number
+pub record Sits (t : List ℕ) (h : Head) : Type 0 where
   pub below : h .number < nodeCount t
   pub there : h .spot ≡ spotAt t (h .number)
 
@@ -80,8 +80,8 @@ module _ (t : List ℕ) (f : Facts) (s : Sound t f) where
       let g : good6 t n nv i ≡ true = not-so (good6 t n nv i) (lowest-clear n (bad6 t n nv) i (omega (arith, clear))) in
       leb-true _ _ (and-left (leb (beginAt t i) (endAt t i)) _ (and-right (known (kindAt t i)) _ g))
 
-  node-own : (i : ℕ) → i < nodeCount t → Own t (headAt t i)
-  node-own i h =
+  node-sits : (i : ℕ) → i < nodeCount t → Sits t (headAt t i)
+  node-sits i h =
       let few = s .few-nodes in
       let e : headAt t i .number ≡ i = number-own t i (omega arith) in
       record { below = omega arith; there = rw e (head-spot t i) }
@@ -89,5 +89,5 @@ module _ (t : List ℕ) (f : Facts) (s : Sound t f) where
   pub tree-straight : Throughout Straight (treeOf t)
   tree-straight = tree-held Straight node-straight
 
-  pub tree-own : Throughout (Own t) (treeOf t)
-  tree-own = tree-held (Own t) node-own
+  pub tree-sits : Throughout (Sits t) (treeOf t)
+  tree-sits = tree-held (Sits t) node-sits

@@ -27,7 +27,7 @@ use Rattle.spans.specs.Fit.{Third, Fit, Each}
 use Rattle.spans.specs.Placed.{Lies, Placed}
 use Rattle.spans.proofs.Each.{join, each-more}
 use Rattle.spans.proofs.Made.{Throughout, early, later, Made, name, one, two, three, double}
-use Rattle.spans.proofs.Tree.{Straight, Own, tree-straight, tree-own}
+use Rattle.spans.proofs.Tree.{Straight, Sits, tree-straight, tree-sits}
 use Rattle.spans.proofs.Names.{names-made}
 use Rattle.spans.proofs.Flow.{flow-made}
 use Rattle.spans.proofs.Incompatible.{incompatible-made}
@@ -107,13 +107,13 @@ fit-made r (double h v g s p q u) = record { some-code = omega arith; a-code = o
 -- ---- .. and its numbers lead to the nodes that it is made of
 
 module _ (t : List ℕ) where
-  lies : (h : Head) → Own t h → Lies t (h .number) (span-of (h .spot))
+  lies : (h : Head) → Sits t h → Lies t (h .number) (span-of (h .spot))
   lies h p = (p .below, ap span-of (p .there))
 
   not-early : (c : ℕ) {A : Type 0} → 7 ≤ c → c ≤ 6 → A
   not-early c a b = absurd (let z : ⊥ = omega arith in z)
 
-  placed-made : (r : Rec) → Made (Own t) r → Placed t r
+  placed-made : (r : Rec) → Made (Sits t) r → Placed t r
   placed-made r (name c h k p) = record { first = lies h p; second = inl (refl, refl); named = λ l. p .there }
   placed-made r (one c h v k p) = record { first = lies h p; second = inl (refl, refl); named = not-early c (later-low c k) }
   placed-made r (two c h v g k p q) = record { first = lies h p; second = inr (lies g q); named = not-early c (later-low c k) }
@@ -127,7 +127,7 @@ pub file-fit : (t : List ℕ) (f : Facts) → judged t ≡ Valid f → (mode : M
 file-fit t f v mode =
     each-more (Made Straight) Fit fit-made (lint-list mode t) (file-made Straight t (tree-straight t f (sound t f v)) mode)
 
--- THE NUMBERS of every record are those of the file's nodes that have its spans.
+-- THE NUMBERS of every record are those of nodes of the file that have its first and second span.
 pub file-placed : (t : List ℕ) (f : Facts) → judged t ≡ Valid f → (mode : Mode) → Each (Placed t) (lint-list mode t)
 file-placed t f v mode =
-    each-more (Made (Own t)) (Placed t) (placed-made t) (lint-list mode t) (file-made (Own t) t (tree-own t f (sound t f v)) mode)
+    each-more (Made (Sits t)) (Placed t) (placed-made t) (lint-list mode t) (file-made (Sits t) t (tree-sits t f (sound t f v)) mode)

@@ -1,5 +1,5 @@
--- 02, §4: "The editor jumps to a tree node and a span is too slow to search." A record whose numbers lead there: each is that of a node
--- of the file t that has the record's span, or there is neither. Assumes nothing.
+-- 02, §4: "The editor jumps to a tree node and a span is too slow to search." A record whose numbers lead there: the first is that of a
+-- node of the file t that has the record's first span; the second likewise, or there is neither second span nor number. Assumes nothing.
 use Prim.Native.Nat.{ℕ, _≤_, _<_}
 use mathlib.Core.Path.{_≡_}
 use mathlib.Core.List.{List}

@@ -26,8 +26,8 @@ pub data Forest : Type 0 where
 unfoldable pub spotAt : List ℕ → ℕ → Spot
 spotAt t i = record { begin = beginAt t i; end = endAt t i; value = valueAt t i }
 
--- node i's number, as a record has it (02, §4). 65535 stands for none, so a number that no file's node has is none: every number then fits a
--- word of a record, and no walk has to carry a bound.
+-- node i's number, as a record has it (02, §4). 65535 stands for none; so does every number from there on, which no file's node has: each
+-- number then fits a word of a record, and no walk has to carry a bound.
 abbrev pub numberAt : ℕ → ℕ
 numberAt i = pick (ltb i 65535) i 65535
 

@@ -2,8 +2,8 @@ use borrow.Author.Tests.{le-ltb}
 use Rattle.names.specs.Records.{metWords}
 use Rattle.names.proofs.FirstMet.{met-back}
 use borrow.Author.Needs.{needs}
-use Rattle.names.proofs.met.Statement.{statement}
-use Rattle.names.proofs.met.Tie as tie
+use Rattle.names.proofs.first_nodes.Statement.{statement}
+use Rattle.names.proofs.first_nodes.Tie as tie
 
 sub-first-met : tie.Need-sub-first-met
 sub-first-met c = search needs
@@ -28,8 +28,8 @@ returns-2 : tie.Need-returns-2
 unfolding metWords
 returns-2 c = rw (le-ltb _ _ (c .if1 .left))
 
-pub met-spec : {M : Type 1} → statement M
-met-spec =
+pub first-nodes-spec : {M : Type 1} → statement M
+first-nodes-spec =
     tie.close
     (tie.spec
     sub-first-met
