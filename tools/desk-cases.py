@@ -6,9 +6,12 @@ With --check it writes nothing, and says whether they are as it would write them
 
 No answer comes from the program itself: lists are the Rust's (compare/recorded, examples/listings.txt), with nodes and the
 reasons of equal keys by document 01's rules as compare/ has them, or, with strict keys, those of the rules; logs are written by
-examples/log.py from these lists; the rest is counted here.
+examples/log.py from these lists; the rest is counted here. Whether an integer and a float are one number (02, §2) is said by
+Python, which compares them by exact value.
 """
+import math
 import pathlib
+import struct
 import sys
 
 ROOT = pathlib.Path(__file__).resolve().parent.parent
@@ -25,6 +28,35 @@ RECORDED = ROOT / "compare" / "recorded"
 WORK, RECORD, CODES = 32768, 10, 17
 # More than the program has of any room, which is taken as all that it has.
 AMPLE = 2**32 - 1
+# An integer and a float that is equal or near: at 0, around the bounds of i32, of 2^53 and of words, up to the largest integer
+# of 64 bytes, and floats that no integer of a file equals. 02's own pair has its log too.
+LARGEST = 2**512 - 1
+TICKS = 2**53, 2.0**53
+PAIRS = (
+    (0, 0.0),
+    (0, 5e-324),
+    (2**52 - 1, 2.0**52 - 0.5),
+    (2**31 - 1, 2.0**31 - 1),
+    (2**31, 2.0**31),
+    (2**53 - 1, 2.0**53 - 1),
+    TICKS,
+    (2**53 + 1, 2.0**53),
+    (2**53 + 2, 2.0**53 + 2),
+    (2**63 - 1, 2.0**63),
+    (2**63, 2.0**63),
+    (2**64, 2.0**64),
+    (2**64 + 1, 2.0**64),
+    (2**511 - 1, 2.0**511),
+    (2**511, 2.0**511),
+    (2**512 - 2**459, 2.0**512 - 2.0**459),
+    (LARGEST, 2.0**512 - 2.0**459),
+    (LARGEST, 2.0**512),
+    (0, 2.0**512),
+    (2**511, 2.0**1023),
+    (LARGEST, sys.float_info.max),
+    (LARGEST, math.inf),
+    (0, math.inf),
+)
 
 
 def refused(number, place):
@@ -104,6 +136,40 @@ def tallies(listings):
     yield request(TALLY, bytes(11)), refused(1, 0)
 
 
+def literal(number):
+    """A number as a value: a float's eight bytes, or an integer's without a zero byte in front."""
+    if isinstance(number, float):
+        return 4, struct.pack("<d", number)
+    return 3, number.to_bytes((number.bit_length() + 7) // 8, "big")
+
+
+def dict_alone(keys):
+    """The tree of a dict with these keys that is a statement, each key and each value on a byte of its own."""
+    pairs = [(Node(21, (at, at + 1), value=literal(key)), Node(22, (at + 1, at + 2))) for at, key in zip((0, 2), keys)]
+    kids = [node.in_role(role) for pair in pairs for node, role in zip(pair, (8, 4))]
+    return packed(Node(5, (0, 4), [Node(29, (0, 4), kids).in_role(4)]), None)
+
+
+def two_keys(keys, strict):
+    """Its list: it has no effect, and its keys are equal or not; with ordinary keys only a whole i32 is one key in both forms."""
+    equal = keys[0] == keys[1] and (strict or keys[0] < 2**31)
+    later = int(isinstance(keys[1], float))
+    lines = ["13 0 4 65535 0 0 0 0 1 65535"] + [f"16 0 1 {later} 2 3 2 0 2 4"] * equal
+    return "".join(line + "\n" for line in [*lines, f"total {len(lines)}"]).encode()
+
+
+def floats(_):
+    """An integer and a float as keys, in either order, ordinary and strict."""
+    for pair in PAIRS:
+        for keys in (pair, pair[::-1]):
+            tree = dict_alone(keys)
+            for strict in (False, True):
+                listing = two_keys(keys, strict)
+                yield request(strict * STRICT, tree), listing
+                if pair == TICKS:
+                    yield request(LOG | strict * STRICT, tree), logged(tree, listing)
+
+
 def strange(listings):
     """Choices that there aren't, with all that such a request has, and after each a good request: nothing is lost."""
     tree, listing = tree_of("no-effect.slt"), listings["no-effect.slt", False]
@@ -150,7 +216,7 @@ def cut_short():
 
 def cases():
     listings = asking.listings()
-    for part in (samples, logs, rooms, tallies, strange, lengths):
+    for part in (samples, logs, rooms, tallies, floats, strange, lengths):
         yield from part(listings)
     yield from recorded()
     yield cut_short()

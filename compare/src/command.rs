@@ -7,7 +7,7 @@ use crate::listing::{Source, PASSES};
 use crate::make::Plan;
 use crate::noticed::noticed;
 use crate::recorded::{self, Limits};
-use crate::rules::Mode;
+use crate::rules::{self, Mode};
 use crate::show::show;
 use std::path::Path;
 
@@ -17,16 +17,18 @@ const USAGE: &str = "usage:
                                       the same by document 01's rules, without the Rust
   compare judge [--batch]             `valid` or `refused N P`
   compare show                        a file's nodes by name
-  compare make [--seed S] [--from I] [--count N] [--any-order] [--damage] [--long] [--shared]
+  compare make [--seed S] [--from I] [--count N] [--any-order] [--damage] [--long] [--shared] [--floats]
                                       generated files, each after its length, on standard output
   compare sized SORT                  trees of one sort at growing numbers of nodes, each after its length;
                                       SORT: straight, loops, dicts, names
   compare coverage FILES..            what files show
-  compare lists [--rules | --strict] [--eight] FILES LISTS
+  compare lists [--rules | --strict] [--eight] [--before-floats] FILES LISTS
                                       the Rust beside lists written before; --rules: and document 01's rules,
                                       strict keys: these alone. Of a record's ten numbers the Rust says neither
                                       the reason of 16 nor the node of 1 to 6, the rules say all; --eight: of
-                                      lists of 01 alone its eight numbers a record, of 16 six
+                                      lists of 01 alone its eight numbers a record, of 16 six;
+                                      --before-floats: strict lists older than 02, §2, so files on which
+                                      it finds equal keys are left out
   compare noticed FILES LISTS         whether the Rust and the rules would notice a wrong number in right lists
   compare against [--each | --desk] [--rules | --strict] [--chunk N] [--as-found] FILES.. -- PROGRAM ..
                                       the same beside a program, which takes files as --batch has them;
@@ -125,12 +127,12 @@ pub fn run(words: &[String]) -> Result<bool, String> {
             Ok(true)
         }
         "make" => {
-            let plain = ["--any-order", "--damage", "--long", "--shared"];
+            let plain = ["--any-order", "--damage", "--long", "--shared", "--floats"];
             make(Words::new(words, &["--seed", "--from", "--count"], &plain)?)
         }
         "sized" => sized(Words::new(words, &[], &[])?),
         "coverage" => coverage(Words::new(words, &[], &[])?),
-        "lists" => lists(Words::new(words, &[], &["--rules", "--strict", "--eight"])?),
+        "lists" => lists(Words::new(words, &[], &["--rules", "--strict", "--eight", "--before-floats"])?),
         "noticed" => wrong_numbers(Words::new(words, &[], &[])?),
         "record" => record(Words::new(words, &["--seed", "--count", "--bytes"], &[])?),
         "against" => {
@@ -182,6 +184,7 @@ fn plan(words: &Words) -> Result<Plan, String> {
         damage: has("--damage"),
         long: has("--long"),
         shared: has("--shared"),
+        floats: has("--floats"),
     })
 }
 
@@ -234,8 +237,16 @@ fn listed(words: &Words) -> Result<(Vec<Vec<u8>>, Vec<String>), String> {
     Ok((files, lists))
 }
 
+/// Whether 02, §2 finds equal keys in a file: a whole float of 2^53 or more beside its integer.
+fn has_large_floats(file: &[u8]) -> bool {
+    judge(file).is_none() && rules::in_two_forms(file).iter().any(|bits| *bits > 53)
+}
+
 fn lists(words: Words) -> Result<bool, String> {
     let (files, lists) = listed(&words)?;
+    let out = |file: &[u8]| words.has("--before-floats") && has_large_floats(file);
+    let kept = files.into_iter().zip(lists).filter(|(file, _)| !out(file));
+    let (files, lists): (Vec<_>, Vec<_>) = kept.unzip();
     Ok(reported(with_lists(&words.sides()?, &files, &lists)))
 }
 
@@ -266,7 +277,7 @@ fn record(words: Words) -> Result<bool, String> {
     let limits = Limits {
         seed: words.number("--seed", 7)?,
         count: words.number("--count", 20000)?,
-        bytes: words.number("--bytes", 440000)? as usize,
+        bytes: words.number("--bytes", 446000)? as usize,
     };
     print(recorded::write(&limits, Path::new(folder))?.as_bytes());
     Ok(true)

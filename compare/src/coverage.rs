@@ -34,6 +34,9 @@ fn loops(node: &Node) -> usize {
     node.children.iter().map(loops).max().unwrap_or(0) + usize::from(node.kind == 11)
 }
 
+/// Bits of whole numbers: any, more than an i32 has, than 01's bound of 2^53, than a word, all of 64 bytes.
+const BITS: [usize; 5] = [0, 32, 54, 65, 512];
+
 #[derive(Default)]
 pub struct Coverage {
     files: usize,
@@ -41,6 +44,8 @@ pub struct Coverage {
     panics: usize,
     codes: BTreeMap<u32, usize>,
     reasons: BTreeMap<u32, usize>,
+    /// By bits: trees with a number of so many or more that strict keys hold equal in its two forms.
+    two_forms: BTreeMap<usize, usize>,
     kinds: BTreeMap<u8, usize>,
     roles: BTreeMap<u8, usize>,
     refusals: BTreeMap<u32, usize>,
@@ -83,6 +88,9 @@ impl Coverage {
         let [.., dubious] = rules::records(bytes, Mode::Ordinary);
         let reasons: BTreeSet<u32> = dubious.iter().filter(|r| r[0] == 16).map(|r| r[6]).collect();
         reasons.into_iter().for_each(|c| *self.reasons.entry(c).or_default() += 1);
+        let most = rules::in_two_forms(bytes).into_iter().max();
+        let reached = BITS.into_iter().filter(|bits| most >= Some(*bits));
+        reached.for_each(|c| *self.two_forms.entry(c).or_default() += 1);
         self.nodes(&rules::met(bytes));
     }
 
@@ -115,6 +123,8 @@ impl Coverage {
         line("files", format!("{} ({} valid, the Rust panicked on {})", self.files, self.valid, self.panics));
         line("trees by code", counted((1..=17).map(|c| (c, self.codes.get(&c)))));
         line("trees by reason of equal keys", counted((1..=2).map(|c| (c, self.reasons.get(&c)))));
+        let two_forms = counted(BITS.into_iter().map(|c| (c, self.two_forms.get(&c))));
+        line("trees where strict keys have a number in two forms, of so many bits or more", two_forms);
         line("trees with a names record that several nodes fit", self.shared.to_string());
         let later = counted((1..=6).map(|c| (c, self.later.get(&c))));
         line("trees where it has not the file's first of them, by code", later);

@@ -2,6 +2,7 @@
 mod expressions;
 mod limits;
 mod literals;
+mod numbers;
 mod order;
 mod spans;
 mod statements;
@@ -13,7 +14,7 @@ pub use literals::{float, integer};
 use style::Style;
 
 /// What the command line asks for; with an index it decides one file.
-#[derive(Clone, Copy)]
+#[derive(Clone, Copy, Default)]
 pub struct Plan {
     pub seed: u64,
     /// Children in any order that document 01 allows, else in its lists' order.
@@ -23,6 +24,8 @@ pub struct Plan {
     pub long: bool,
     /// Nodes that hold names stand on one another's spans.
     pub shared: bool,
+    /// Keys are mostly whole floats of every size and their integers.
+    pub floats: bool,
 }
 
 impl Plan {
@@ -32,7 +35,8 @@ impl Plan {
         let damage = if self.damage { " --damage" } else { "" };
         let long = if self.long { " --long" } else { "" };
         let shared = if self.shared { " --shared" } else { "" };
-        format!("--seed {} --from {index} --count 1{order}{damage}{long}{shared}", self.seed)
+        let floats = if self.floats { " --floats" } else { "" };
+        format!("--seed {} --from {index} --count 1{order}{damage}{long}{shared}{floats}", self.seed)
     }
 
     pub fn file(&self, index: u64) -> Vec<u8> {
@@ -49,7 +53,8 @@ impl Plan {
     }
 
     fn tree(&self, r: &mut Random) -> Tree {
-        let mut tree = if r.percent(2) { limits::tree(r) } else { free(r) };
+        let style = if self.floats { Style::floats } else { Style::any };
+        let mut tree = if r.percent(2) { limits::tree(style(r), r) } else { free(style(r), r) };
         if self.any_order {
             order::shuffle(&mut tree.root, r);
         }
@@ -136,8 +141,7 @@ pub fn deep_tree(r: &mut Random, depth: usize) -> Tree {
 }
 
 /// A tree with no bound in mind but the general ones.
-fn free(r: &mut Random) -> Tree {
-    let style = Style::any(r);
+fn free(style: Style, r: &mut Random) -> Tree {
     let nodes = match r.below(50) {
         0..=16 => r.range(1, 12),
         17..=34 => r.range(12, 40),

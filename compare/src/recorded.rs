@@ -97,7 +97,7 @@ fn choose(limits: &Limits) -> Vec<Made> {
     let mut room = limits.bytes.saturating_sub(used);
     let mut seen = Seen::default();
     out.iter().for_each(|m| seen.add(&features(&m.file)));
-    let plan = Plan { seed: limits.seed, any_order: false, damage: false, long: false, shared: false };
+    let plan = Plan { seed: limits.seed, ..Plan::default() };
     // Refused files are short; a fifth of the room is plenty for them.
     let mut part = room / 5;
     room -= part;

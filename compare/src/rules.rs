@@ -37,6 +37,11 @@ pub fn met(bytes: &[u8]) -> Vec<Met> {
     names::list(&view).iter().map(one).collect()
 }
 
+/// The bits of each number that strict keys hold equal in its two forms, in a valid file.
+pub fn in_two_forms(bytes: &[u8]) -> Vec<usize> {
+    keys::in_two_forms(&View::new(bytes))
+}
+
 /// Which cases of the names rules a valid file comes to, as numbers.
 pub fn cases(bytes: &[u8]) -> BTreeSet<u64> {
     names::cases(&View::new(bytes))

@@ -19,6 +19,11 @@ pub fn int(n: u128) -> Node {
     Node::with(21, 0, crate::make::integer(n))
 }
 
+/// An integer by its bytes.
+pub fn magnitude(bytes: Vec<u8>) -> Node {
+    Node::with(21, 0, (3, bytes))
+}
+
 pub fn float(x: f64) -> Node {
     Node::with(21, 0, crate::make::float(x))
 }

@@ -28,6 +28,10 @@ fn keys() -> Vec<Made> {
             "language: keys 9007199254740992 in both forms",
             list(vec![dict_of(vec![int(large), float(large as f64)])]),
         ),
+        made(
+            "language: keys 9007199254740992 in both forms, the float first",
+            list(vec![dict_of(vec![float(large as f64), int(large)])]),
+        ),
         made("language: keys -1, -1", list(vec![dict_of(vec![minus(1), minus(1)])])),
         made(
             "language: keys (1,), (1,)",

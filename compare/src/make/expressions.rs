@@ -1,5 +1,4 @@
 //! Expressions and clauses.
-use super::literals::other_form;
 use super::{Maker, Room};
 use crate::tree::Node;
 
@@ -149,8 +148,8 @@ impl Maker<'_> {
     /// Mostly what the key rules look at.
     fn key(&mut self, room: Room) -> Node {
         match self.r.below(10) {
-            0..=2 => self.identifier(),
-            3..=7 => Node::with(21, 0, self.literal()),
+            0..=2 if !self.style.floats => self.identifier(),
+            0..=7 => Node::with(21, 0, self.literal()),
             _ => self.expression(room),
         }
     }
@@ -158,12 +157,13 @@ impl Maker<'_> {
     /// An earlier key once more, a number often in its other form.
     fn key_again(&mut self, pairs: &[Node]) -> Option<Node> {
         let earlier: Vec<&Node> = pairs.iter().filter(|x| x.role == 8 && x.value.is_some()).collect();
-        if earlier.is_empty() || !self.r.percent(30) {
+        let often = if self.style.floats { 60 } else { 30 };
+        if earlier.is_empty() || !self.r.percent(often) {
             return None;
         }
         let mut again = (*self.r.pick(&earlier)).clone();
         if self.r.percent(60) {
-            again.value = again.value.as_ref().map(other_form);
+            again.value = again.value.as_ref().map(|v| self.otherwise(v));
         }
         Some(again)
     }

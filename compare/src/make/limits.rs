@@ -6,8 +6,8 @@ use super::{Maker, Room};
 use crate::random::Random;
 use crate::tree::{Node, Tree};
 
-pub fn tree(r: &mut Random) -> Tree {
-    let mut maker = Maker { style: Style::any(r), r };
+pub fn tree(style: Style, r: &mut Random) -> Tree {
+    let mut maker = Maker { style, r };
     match maker.r.below(10) {
         0 | 1 => maker.most_nodes(),
         2 => maker.most_values(),

@@ -55,7 +55,7 @@ const FLOATS: [f64; 12] = [
 ];
 
 /// The same number, or nearly, in the other form; other values as they are.
-pub fn other_form(value: &Value) -> Value {
+fn other_form(value: &Value) -> Value {
     match value.0 {
         3 if value.1.len() <= 16 => float(value.1.iter().fold(0, |n, b| n << 8 | u128::from(*b)) as f64),
         4 => {
@@ -72,6 +72,9 @@ pub fn other_form(value: &Value) -> Value {
 
 impl Maker<'_> {
     pub fn literal(&mut self) -> Value {
+        if self.style.floats && self.r.percent(80) {
+            return self.number();
+        }
         match self.r.below(10) {
             0 | 1 => (1, self.text()),
             2 => (2, self.text()),
@@ -83,6 +86,15 @@ impl Maker<'_> {
             }
             8 => float(*self.r.pick(&FLOATS)),
             _ => float(f64::from_bits(self.r.next() >> 1).abs().min(f64::MAX)),
+        }
+    }
+
+    /// What stands again as a key where a number stood.
+    pub fn otherwise(&mut self, value: &Value) -> Value {
+        if self.style.floats {
+            self.beside(value)
+        } else {
+            other_form(value)
         }
     }
 

@@ -13,6 +13,8 @@ pub struct Style {
     pub loose: bool,
     /// Loops that stand in one another around the rest.
     pub nest: usize,
+    /// Literals are mostly numbers, of every size.
+    pub floats: bool,
 }
 
 const MIXED: [usize; 13] = [2, 2, 2, 4, 14, 14, 6, 2, 8, 8, 6, 6, 2];
@@ -68,7 +70,16 @@ impl Style {
             _ => (MIXED, PLAIN),
         };
         let nest = if r.percent(6) { r.range(4, 9) } else { 0 };
-        Style { statements, expressions, names: names(r), loose: r.percent(30), nest }
+        Style { statements, expressions, names: names(r), loose: r.percent(30), nest, floats: false }
+    }
+
+    /// Mostly dicts, their keys mostly numbers.
+    pub fn floats(r: &mut Random) -> Style {
+        let style = Style { floats: true, ..Style::any(r) };
+        if r.percent(20) {
+            return style;
+        }
+        Style { statements: FLAT, expressions: KEYS, nest: 0, ..style }
     }
 }
 

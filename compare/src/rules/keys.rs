@@ -17,15 +17,19 @@ const SAME_NUMBER: Span = (2, 0);
 /// What equal keys have in common.
 #[derive(PartialEq, Eq, Hash)]
 enum Key {
-    Whole(u64),
+    /// A magnitude, as an integer's value has it: high byte first, no leading zero byte.
+    Whole(Vec<u8>),
     Value(u16),
 }
 
 impl Mode {
-    fn bound(self) -> u64 {
+    /// Whether the whole number of this magnitude is one key in either form.
+    fn joins(self, magnitude: &[u8]) -> bool {
         match self {
-            Mode::Ordinary => 1 << 31,
-            Mode::Strict => 1 << 53,
+            // A whole i32.
+            Mode::Ordinary => bits(magnitude) <= 31,
+            // "Every finite whole float equals its integer, however large" (02, §2).
+            Mode::Strict => true,
         }
     }
 
@@ -33,18 +37,38 @@ impl Mode {
         if !matches!(view.kind(i), 20 | 21) {
             return None;
         }
-        let (kind, bytes) = view.table(view.value(i));
-        let whole = match kind {
-            3 if bytes.len() <= 8 => Some(bytes.iter().fold(0, |n, b| n << 8 | u64::from(*b))),
-            4 => {
-                let float = f64::from_bits(u64::from_le_bytes(bytes.try_into().expect("eight bytes")));
-                (float.fract() == 0.0 && float < 9e18).then_some(float as u64)
-            }
-            _ => None,
-        };
-        let same = whole.filter(|n| *n < self.bound()).map(Key::Whole);
+        let same = magnitude(view, view.value(i)).filter(|m| self.joins(m)).map(Key::Whole);
         Some(same.unwrap_or(Key::Value(view.value(i))))
     }
+}
+
+/// The magnitude of a value that is a whole number.
+fn magnitude(view: &View, value: u16) -> Option<Vec<u8>> {
+    match view.table(value) {
+        (3, bytes) => Some(bytes.to_vec()),
+        (4, bytes) => whole(f64::from_bits(u64::from_le_bytes(bytes.try_into().expect("eight bytes")))),
+        _ => None,
+    }
+}
+
+fn bits(magnitude: &[u8]) -> usize {
+    magnitude.first().map_or(0, |high| 8 * magnitude.len() - high.leading_zeros() as usize)
+}
+
+/// The magnitude of a finite whole float, from its last byte on. Each step is exact: a remainder always is, and
+/// a float without its last bits, divided by a power of two, is a float.
+fn whole(float: f64) -> Option<Vec<u8>> {
+    if float.is_infinite() || float.fract() != 0.0 {
+        return None;
+    }
+    let (mut left, mut bytes) = (float, Vec::new());
+    while left > 0.0 {
+        let last = left % 256.0;
+        bytes.push(last as u8);
+        left = (left - last) / 256.0;
+    }
+    bytes.reverse();
+    Some(bytes)
 }
 
 pub fn list(view: &View, mode: Mode) -> Vec<Record> {
@@ -52,6 +76,13 @@ pub fn list(view: &View, mode: Mode) -> Vec<Record> {
     view.expressions(0).into_iter().for_each(|x| keys(view, mode, x, &mut out));
     identifiers(view, 0, &mut out);
     out
+}
+
+/// The bits of each number that strict keys hold equal in its two forms.
+pub fn in_two_forms(view: &View) -> Vec<usize> {
+    let found = list(view, Mode::Strict);
+    let forms = found.iter().filter(|r| r[0] == 16 && (r[6], r[7]) == SAME_NUMBER);
+    forms.map(|r| bits(&magnitude(view, r[3] as u16).expect("a whole number"))).collect()
 }
 
 /// Of two equal keys: one kind and the same bytes are one form, else they are an integer and a float.

@@ -2,7 +2,8 @@
 ghost use Prim.Native.Nat.{_+_, _≤_, min};
 ghost use mathlib.Core.Path.{_≡_};
 ghost use lib.ListN.{length};
-ghost use Rattle.log.specs.Pieces.{Starts, piece-most};
+ghost use Rattle.tree.specs.code.Numbers.{Starts};
+ghost use Rattle.log.specs.Pieces.{piece-most};
 ghost use Rattle.desk.specs.Choices.{mode-of};
 ghost use Rattle.desk.specs.Handed.{list-answer, refusal-answer, log-piece, Lists, Holds};
 use crate::reading::ALL;
@@ -146,7 +147,7 @@ fn logged(
 ) -> bool
     requires { ⌜ Lists (mode-of choices) (now t) (now list) n tally × (piece-most ≤ length (now page)) ⌝ }
 {
-    let starts = log::starts(t);
+    let starts = tree::lookup::starts(t);
     if other < ALL {
         return measured(page, choices, t, &starts, list, n, tally, other);
     }

@@ -9,7 +9,7 @@ use mathlib.Core.List.{List, [], _∷_, _++_}
 use lib.Dec.{leb, leb→le}
 use lib.ListN.{length, take, drop, getD, replicate, length-append, length-take}
 use borrow.Author.Tests.{le-leb, lt-leb, lt-ltb, le-ltb}
-use lib.Seq.{drop-cons, ext-getD}
+use lib.Seq.{drop-cons}
 use Rattle.tree.specs.Bytes.{bytesFrom, nodeCount, valueCount, u16At}
 use Rattle.tree.specs.Values.{Value, valueFrom, offset, formed, form-as, sense}
 use Rattle.tree.specs.Table.{tableOf, at}
@@ -28,7 +28,7 @@ use Rattle.codes.specs.Named.{named}
 use Rattle.codes.specs.declared.ShortName.{ShortName}
 use Rattle.log.specs.Words.{shown, value-of}
 use Rattle.log.proofs.Plainly.{shown-text, shown-number}
-use Rattle.log.specs.Pieces.{Here, Small, Starts}
+use Rattle.log.specs.Pieces.{Here, Small}
 
 -- a number of the table stands for the value there, any other for none
 pub value-in : (t : List ℕ) (v : ℕ) → v < valueCount t → value-of (tableOf t) v ≡ some (valueFrom t (offset t (nodeCount t) v))
@@ -126,8 +126,3 @@ module _ (s : ShortName) (c : ℕ) (e : s ≡ named (short-name c)) where
       let a : s .length ≡ length (short-name c) = ap (λ (x : ShortName). x .length) e in
       let b : length (s .bytes) ≡ length (short-name c ++ replicate (26 - length (short-name c)) 0) = ap (λ (x : ShortName). length (x .bytes)) e in
       omega (arith, length-append (short-name c) (replicate (26 - length (short-name c)) 0))
-
--- the table of where values start is the only one of its kind
-pub starts-one : (t a b : List ℕ) → Starts t a → Starts t b → a ≡ b
-starts-one t a b g h =
-    ext-getD 0 a b (g .long ∙ sym (h .long)) (λ i l. g .at-each i (omega (arith, g .long)) ∙ sym (h .at-each i (omega (arith, g .long))))

@@ -99,8 +99,3 @@ pub record Here (t : List ℕ) (o : ℕ) : Type 0 where
 pub record Small (t : List ℕ) : Type 0 where
   pub few : valueCount t ≤ 512
   pub here : (v : ℕ) → v < valueCount t → Here t (offset t (nodeCount t) v)
-
--- a table of where each value of the file t starts
-pub record Starts (t table : List ℕ) : Type 0 where
-  pub long : length table ≡ 512
-  pub at-each : (v : ℕ) → v < 512 → getD table v 0 ≡ offset t (nodeCount t) v

@@ -8,6 +8,7 @@ ghost use lib.Dec.{eqb, ltb};
 ghost use lib.ListN.{length, drop};
 ghost use Rattle.tree.specs.Values.{valueFrom};
 ghost use Rattle.tree.specs.Table.{tableOf};
+ghost use Rattle.tree.specs.code.Numbers.{Starts};
 ghost use Rattle.rules.specs.Afterwards.{record-in, records-in};
 ghost use Rattle.rules.specs.Record.{width};
 ghost use Rattle.rules.specs.Joined.{codes};
@@ -18,7 +19,7 @@ ghost use Rattle.json.specs.Escape.{escape};
 ghost use Rattle.json.specs.Text.{string, _⇒_, quoted, comma, text, member, lines};
 ghost use Rattle.log.specs.Words.{shown as shown-of, value-of};
 ghost use Rattle.log.specs.Log.{only, level as level-of, message-of, index-of, result as result-of, results as results-of, rule as rule-of, rules as rules-of, sarif-log};
-ghost use Rattle.log.specs.Pieces.{span, open-place, related-place, second-related, all-related, message-end, rule-line, result-rule, result-standing, result-place, result-related, piece-most, head as head-of, tail as tail-of, piece-of, Here, Small, Starts};
+ghost use Rattle.log.specs.Pieces.{span, open-place, related-place, second-related, all-related, message-end, rule-line, result-rule, result-standing, result-place, result-related, piece-most, head as head-of, tail as tail-of, piece-of, Here, Small};
 use answer::Words;
 use codes::EvalSeverity;
 use codes::severity;
@@ -32,28 +33,12 @@ use rules::CODES;
 use rules::LAST_CODE;
 use rules::WIDTH;
 use tree::bytes::byte_at;
-use tree::bytes::node_count;
 use tree::bytes::u16_at;
 use tree::bytes::value_count;
 use words::kind_word;
 use words::phrase;
 
 mod words;
-
-// Where each value starts.
-pub fn starts(t: &[u8]) -> [usize; 512]
-    ensures { λ r. ⌜ Starts (now (t .entry)) r ⌝ }
-{
-    let mut table = [0usize; 512];
-    let mut at = 11 + 16 * node_count(t);
-    let mut v = 0;
-    while v < 512 {
-        table[v] = at;
-        at = at + 3 + u16_at(t, at + 1);
-        v += 1;
-    }
-    table
-}
 
 fn level(out: &mut [u8], n: usize, code: u32) -> usize
     ensures { λ r. ⌜ Wrote (now (out .entry)) n (now (out .exit)) r 7 (λ rest. level-of code ++ rest) ⌝ }

@@ -1,5 +1,5 @@
 -- More files with their lists, beside the starred ones (Known): every code that those don't show, the five loops that are taken twice,
--- 01's 47 bytes, both reasons of 02, §11, nodes that share span and name (02, §4), and each limit at its number and one past it.
+-- 01's 47 bytes, both reasons of 02, §11, whole floats of every size (02, §2), nodes that share span and name (02, §4), and each limit at its number and one past it.
 -- Assumes nothing.
 use Prim.Native.Nat.{ℕ, zero, suc}
 use mathlib.Core.Bool.{Bool, true, _&&_}
@@ -236,6 +236,107 @@ two-reasons =
     ∷ value-of 4 (0x00 ∷ 0x00 ∷ 0x00 ∷ 0x00 ∷ 0x00 ∷ 0x00 ∷ 0xf8 ∷ 0x3f ∷ [])
     ∷ [])
 
+abbrev pub tick-values : List (List ℕ)
+tick-values =
+    value-of 0 (0x64 ∷ [])
+    ∷ value-of 3 []
+    ∷ value-of 3 (0x20 ∷ 0x00 ∷ 0x00 ∷ 0x00 ∷ 0x00 ∷ 0x00 ∷ 0x00 ∷ [])
+    ∷ value-of 4 (0x00 ∷ 0x00 ∷ 0x00 ∷ 0x00 ∷ 0x00 ∷ 0x00 ∷ 0x40 ∷ 0x43 ∷ [])
+    ∷ []
+
+-- 02, §2's own: d = {9007199254740992: 0, 9007199254740992.0: 0}
+-- (values: d, 0, 9007199254740992, 9007199254740992.0)
+abbrev pub ticks : List ℕ
+ticks =
+    file
+    (node-of 6 0 7 0 48 65535
+    ∷ node-of 40 5 1 0 1 0
+    ∷ node-of 29 4 5 4 48 65535
+    ∷ node-of 21 8 1 5 21 2
+    ∷ node-of 21 4 1 23 24 1
+    ∷ node-of 21 8 1 26 44 3
+    ∷ node-of 21 4 1 46 47 1
+    ∷ [])
+    tick-values
+
+-- d = {9007199254740992.0: 0, 9007199254740992: 0}
+-- (values: the same)
+abbrev pub ticks-turned : List ℕ
+ticks-turned =
+    file
+    (node-of 6 0 7 0 48 65535
+    ∷ node-of 40 5 1 0 1 0
+    ∷ node-of 29 4 5 4 48 65535
+    ∷ node-of 21 8 1 5 23 3
+    ∷ node-of 21 4 1 25 26 1
+    ∷ node-of 21 8 1 28 44 2
+    ∷ node-of 21 4 1 46 47 1
+    ∷ [])
+    tick-values
+
+-- d = {k: 0, ..} with spans of no text, the keys k being the integers 0, 2^53 - 1, 2^53 + 2, 2^511, 2^512 - 2^459 and 2^512 - 1, then the floats
+-- 0.0, the smallest above it, 1.5, 2^53 - 1, 2^53 + 2, 2^511, 2^512 - 2^459, 2^512, 2^1023, infinity and infinity again
+-- (values: d, the integers, the floats by their bytes)
+abbrev pub every-size : List ℕ
+every-size =
+    file
+    (node-of 6 0 37 0 200 65535
+    ∷ node-of 40 5 1 0 1 0
+    ∷ node-of 29 4 35 5 200 65535
+    ∷ node-of 21 8 1 10 15 1
+    ∷ node-of 21 4 1 17 18 1
+    ∷ node-of 21 8 1 20 25 2
+    ∷ node-of 21 4 1 27 28 1
+    ∷ node-of 21 8 1 30 35 3
+    ∷ node-of 21 4 1 37 38 1
+    ∷ node-of 21 8 1 40 45 4
+    ∷ node-of 21 4 1 47 48 1
+    ∷ node-of 21 8 1 50 55 5
+    ∷ node-of 21 4 1 57 58 1
+    ∷ node-of 21 8 1 60 65 6
+    ∷ node-of 21 4 1 67 68 1
+    ∷ node-of 21 8 1 70 75 7
+    ∷ node-of 21 4 1 77 78 1
+    ∷ node-of 21 8 1 80 85 13
+    ∷ node-of 21 4 1 87 88 1
+    ∷ node-of 21 8 1 90 95 12
+    ∷ node-of 21 4 1 97 98 1
+    ∷ node-of 21 8 1 100 105 15
+    ∷ node-of 21 4 1 107 108 1
+    ∷ node-of 21 8 1 110 115 14
+    ∷ node-of 21 4 1 117 118 1
+    ∷ node-of 21 8 1 120 125 8
+    ∷ node-of 21 4 1 127 128 1
+    ∷ node-of 21 8 1 130 135 16
+    ∷ node-of 21 4 1 137 138 1
+    ∷ node-of 21 8 1 140 145 10
+    ∷ node-of 21 4 1 147 148 1
+    ∷ node-of 21 8 1 150 155 9
+    ∷ node-of 21 4 1 157 158 1
+    ∷ node-of 21 8 1 160 165 11
+    ∷ node-of 21 4 1 167 168 1
+    ∷ node-of 21 8 1 170 175 11
+    ∷ node-of 21 4 1 177 178 1
+    ∷ [])
+    (value-of 0 (0x64 ∷ [])
+    ∷ value-of 3 []
+    ∷ value-of 3 (0x1f ∷ 0xff ∷ 0xff ∷ 0xff ∷ 0xff ∷ 0xff ∷ 0xff ∷ [])
+    ∷ value-of 3 (0x20 ∷ 0x00 ∷ 0x00 ∷ 0x00 ∷ 0x00 ∷ 0x00 ∷ 0x02 ∷ [])
+    ∷ value-of 3 (0x80 ∷ replicate 63 0)
+    ∷ value-of 3 (0xff ∷ 0xff ∷ 0xff ∷ 0xff ∷ 0xff ∷ 0xff ∷ 0xf8 ∷ replicate 57 0)
+    ∷ value-of 3 (replicate 64 0xff)
+    ∷ value-of 4 (0x00 ∷ 0x00 ∷ 0x00 ∷ 0x00 ∷ 0x00 ∷ 0x00 ∷ 0x00 ∷ 0x00 ∷ [])
+    ∷ value-of 4 (0x00 ∷ 0x00 ∷ 0x00 ∷ 0x00 ∷ 0x00 ∷ 0x00 ∷ 0xe0 ∷ 0x5f ∷ [])
+    ∷ value-of 4 (0x00 ∷ 0x00 ∷ 0x00 ∷ 0x00 ∷ 0x00 ∷ 0x00 ∷ 0xe0 ∷ 0x7f ∷ [])
+    ∷ value-of 4 (0x00 ∷ 0x00 ∷ 0x00 ∷ 0x00 ∷ 0x00 ∷ 0x00 ∷ 0xf0 ∷ 0x5f ∷ [])
+    ∷ value-of 4 (0x00 ∷ 0x00 ∷ 0x00 ∷ 0x00 ∷ 0x00 ∷ 0x00 ∷ 0xf0 ∷ 0x7f ∷ [])
+    ∷ value-of 4 (0x00 ∷ 0x00 ∷ 0x00 ∷ 0x00 ∷ 0x00 ∷ 0x00 ∷ 0xf8 ∷ 0x3f ∷ [])
+    ∷ value-of 4 (0x01 ∷ 0x00 ∷ 0x00 ∷ 0x00 ∷ 0x00 ∷ 0x00 ∷ 0x00 ∷ 0x00 ∷ [])
+    ∷ value-of 4 (0x01 ∷ 0x00 ∷ 0x00 ∷ 0x00 ∷ 0x00 ∷ 0x00 ∷ 0x40 ∷ 0x43 ∷ [])
+    ∷ value-of 4 (0xff ∷ 0xff ∷ 0xff ∷ 0xff ∷ 0xff ∷ 0xff ∷ 0x3f ∷ 0x43 ∷ [])
+    ∷ value-of 4 (0xff ∷ 0xff ∷ 0xff ∷ 0xff ∷ 0xff ∷ 0xff ∷ 0xef ∷ 0x5f ∷ [])
+    ∷ [])
+
 -- for i in xs:
 --   for j in xs:
 --     for k in xs:
@@ -395,7 +496,7 @@ result-last =
 
 -- "13 0 1 65535 0 0 0 0", and 02, §4: "01's example line ends in the literal's node 1 and 65535"; codes 1, 3, 4, 5, 7, 10, 11, 12, 14 and
 -- 17, one each; 02, §11: the same form (1), the same number in two forms (2), and then 1 again, since it is the previous equal key that
--- the later one is held against;
+-- the later one is held against; 02, §2: strict, a whole float equals its integer at every size, an infinity only itself;
 -- "twice while the count of enclosing for statements (itself counted, through defs too) is at most 5, once from 6": the for in the def is the
 -- fifth, and its second round finds a set in the first (6); it is the sixth, and its one round finds no a (4);
 -- 02, §4: "the one that the names walk meets first", where the file's first is node 1, 2 and 3
@@ -418,6 +519,23 @@ examples =
     ∷ 16 ∷ 17 ∷ 18 ∷ 4 ∷ 23 ∷ 26 ∷ 2 ∷ 0 ∷ 7 ∷ 9
     ∷ 16 ∷ 23 ∷ 26 ∷ 4 ∷ 31 ∷ 34 ∷ 1 ∷ 0 ∷ 9 ∷ 11
     ∷ [])
+    ∷ record { tree = ticks; ordinarily = []; strictly = 16 ∷ 5 ∷ 21 ∷ 3 ∷ 26 ∷ 44 ∷ 2 ∷ 0 ∷ 3 ∷ 5 ∷ [] }
+    ∷ record { tree = ticks-turned; ordinarily = []; strictly = 16 ∷ 5 ∷ 23 ∷ 2 ∷ 28 ∷ 44 ∷ 2 ∷ 0 ∷ 3 ∷ 5 ∷ [] }
+    ∷ record {
+      tree = every-size;
+      ordinarily =
+          (16 ∷ 10 ∷ 15 ∷ 7 ∷ 70 ∷ 75 ∷ 2 ∷ 0 ∷ 3 ∷ 15
+          ∷ 16 ∷ 160 ∷ 165 ∷ 11 ∷ 170 ∷ 175 ∷ 1 ∷ 0 ∷ 33 ∷ 35
+          ∷ []);
+      strictly =
+          (16 ∷ 10 ∷ 15 ∷ 7 ∷ 70 ∷ 75 ∷ 2 ∷ 0 ∷ 3 ∷ 15
+          ∷ 16 ∷ 20 ∷ 25 ∷ 15 ∷ 100 ∷ 105 ∷ 2 ∷ 0 ∷ 5 ∷ 21
+          ∷ 16 ∷ 30 ∷ 35 ∷ 14 ∷ 110 ∷ 115 ∷ 2 ∷ 0 ∷ 7 ∷ 23
+          ∷ 16 ∷ 40 ∷ 45 ∷ 8 ∷ 120 ∷ 125 ∷ 2 ∷ 0 ∷ 9 ∷ 25
+          ∷ 16 ∷ 50 ∷ 55 ∷ 16 ∷ 130 ∷ 135 ∷ 2 ∷ 0 ∷ 11 ∷ 27
+          ∷ 16 ∷ 160 ∷ 165 ∷ 11 ∷ 170 ∷ 175 ∷ 1 ∷ 0 ∷ 33 ∷ 35
+          ∷ []);
+    }
     ∷ always five-loops (6 ∷ 122 ∷ 123 ∷ 1 ∷ 0 ∷ 0 ∷ 0 ∷ 0 ∷ 21 ∷ 65535 ∷ [])
     ∷ always six-loops (4 ∷ 149 ∷ 150 ∷ 1 ∷ 0 ∷ 0 ∷ 0 ∷ 0 ∷ 24 ∷ 65535 ∷ [])
     ∷ always value-first (4 ∷ 0 ∷ 1 ∷ 0 ∷ 0 ∷ 0 ∷ 0 ∷ 0 ∷ 2 ∷ 65535 ∷ [])

@@ -79,7 +79,7 @@ fn tell(
     if answer.len() / WIDTH < n {
         return refused(Refusal::AnswerRoom(n));
     }
-    let starts = log::starts(t);
+    let starts = tree::lookup::starts(t);
     let needed = log::log(&mut output[..0], t, &starts, list, n, tally);
     if output.len() < needed {
         return refused(Refusal::OtherRoom(needed));

@@ -1,11 +1,12 @@
 -- How large the fields of a node are in a list of bytes. Assumes nothing.
-use Prim.Native.Nat.{ℕ, _+_, _<_}
+use Prim.Native.Nat.{ℕ, zero, suc, _+_, _*_, _≤_, _<_}
 use native.Mathlib.Omega.{arith}
 use mathlib.Core.Path.{_≡_}
 use mathlib.Core.List.{List}
 use lib.ListN.{getD}
 use borrow.Author.Tests.{lt-ltb}
-use Rattle.tree.specs.Bytes.{u16At, u32At, nodeAt, kindAt, roleAt, sizeAt, beginAt, endAt, valueAt}
+use Rattle.tree.specs.Bytes.{u16At, u32At, nodeCount, nodeAt, kindAt, roleAt, sizeAt, beginAt, endAt, valueAt}
+use Rattle.tree.specs.Values.{offset}
 use Rattle.tree.specs.Forest.{Head, Forest, none, node, spotAt, headAt, forestOf}
 use Rattle.tree.specs.code.Part.{Part}
 use Rattle.tree.proofs.Laws.{forest-none, forest-node, induct}
@@ -23,6 +24,12 @@ module _ (t : List ℕ) (bytes : (k : ℕ) → getD t k 0 < 256) where
   u32-low : (o : ℕ) → u32At t o < 4294967296
   unfolding u32At
   u32-low o = omega (arith, u16-low o, u16-low (o + 2))
+
+  -- where value v starts
+  pub offset-low : (v : ℕ) → offset t (nodeCount t) v ≤ 1048571 + 65538 * v
+  unfolding offset nodeCount
+  offset-low zero = omega (arith, u16-low 5)
+  offset-low (suc v) = omega (arith, offset-low v, u16-low (offset t (nodeCount t) v + 1))
 
   pub kind-low : (i : ℕ) → kindAt t i < 256
   unfolding kindAt

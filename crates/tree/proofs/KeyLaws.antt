@@ -250,11 +250,11 @@ one-form m v w f g bv bw k t = go (same-means m v w t)
 
 -- the order of values is strict
 
-data Lex (x y : ℕ) (p : Bool) : Type 0 where
+pub data Lex (x y : ℕ) (p : Bool) : Type 0 where
   less : x < y → Lex x y p
   level : x ≡ y → T p → Lex x y p
 
-lex : (x y : ℕ) (p : Bool) → T (ltb x y || (eqb x y && p)) → Lex x y p
+pub lex : (x y : ℕ) (p : Bool) → T (ltb x y || (eqb x y && p)) → Lex x y p
 lex x y p t = go (or-cases (ltb x y) (eqb x y && p) t)
   where
     go : T (ltb x y) ⊎ T (eqb x y && p) → Lex x y p
@@ -380,7 +380,7 @@ mixed-keys m xs ys = (λ t. to (same-means m (integer xs) (floating ys) t), λ r
     from r = by-number (magnitude xs) refl (counted-of m (whole (little ys)) (magnitude xs) (grains-whole (little ys) (magnitude xs) (r .not-infinite) (r .exactly)) (r .counting))
 
 -- an integer of the file is below 256 ^ 64, so a float from there on equals none
-onward-below : (xs : List ℕ) (a : ℕ) → T (all-bytes xs) → onward a xs < suc a * 256 ^ length xs
+pub onward-below : (xs : List ℕ) (a : ℕ) → T (all-bytes xs) → onward a xs < suc a * 256 ^ length xs
 onward-below [] a p = let q : suc a * 1 ≡ suc a = mul-one (suc a) in omega arith
 onward-below (x ∷ xs) a p =
     let hx : x < 256 = ltb→lt x 256 (and-left (ltb x 256) (all-bytes xs) p) in

@@ -1,36 +1,36 @@
 -- The numbers that stand for keys: how the code finds them, and the key test by their table. Assumes nothing.
 use Prim.Native.Nat.{ℕ, _+_, _≤_, _<_}
 use native.Mathlib.Omega.{arith}
-use mathlib.Core.Path.{_≡_, refl, sym, ap, _∙_}
+use native.Mathlib.Decide.{decLt, ℕ-discrete}
+use mathlib.Core.Path.{_≡_, refl, sym, ap, subst, _∙_}
 use mathlib.Core.List.{List}
-use mathlib.Core.Bool.{Bool, true, false}
-use mathlib.Core.Option.{some}
-use lib.Dec.{ltb}
+use mathlib.Core.Bool.{Bool, true, false, _&&_}
+use mathlib.Core.Option.{Option, none, some}
+use lib.Dec.{eqb, ltb}
 use lib.ListN.{getD}
-use borrow.Author.Tests.{eq-eqb, ne-eqb}
+use borrow.Author.Tests.{lt-ltb, le-ltb, eq-eqb, ne-eqb}
 use Rattle.tree.specs.Bytes.{nodeCount, valueCount, pick}
-use Rattle.tree.specs.code.Offsets.{u64At, capped, kindOf, lenOf}
-use Rattle.tree.specs.Search.{lowest}
-use Rattle.tree.specs.Values.{valueFrom, offset}
+use Rattle.tree.specs.code.Offsets.{u64At, kindOf, lenOf}
+use Rattle.tree.specs.Values.{Value, magnitude, valueFrom, offset}
 use Rattle.tree.specs.declared.Mode.{Mode}
 use Rattle.tree.specs.declared.Likeness.the-variants.{Different, SameForm, SameNumber}
-use Rattle.tree.specs.Keys.{whole, bound, counted}
+use Rattle.tree.specs.declared.keys.Side.the-variants.{Below, Above}
+use Rattle.tree.specs.Keys.{whole, only-if, counts, counted}
 use Rattle.tree.specs.Table.{tableOf, at}
-use Rattle.tree.specs.code.Numbers.{below-or, is-integer, lead, key-number, like-by}
+use Rattle.tree.specs.code.Numbers.{integer-is, is-integer, below, level, short-of, Starts, side-of, placed, sought, lead, key-number, like-by}
 use Rattle.tree.proofs.Link.{length-from, little-eight}
-use Rattle.tree.proofs.TableLaws.{length-table, at-table, at-past}
-use Rattle.tree.proofs.WholeLaws.{counted-low, counted-high}
+use Rattle.tree.proofs.TableLaws.{at-table, at-past, start-at}
 
-pub key-past : (t : List ℕ) (m : Mode) (v : ℕ) → valueCount t ≤ v → key-number m (tableOf t) v ≡ v
+key-past : (t : List ℕ) (m : Mode) (v : ℕ) → valueCount t ≤ v → key-number m (tableOf t) v ≡ v
 unfolding key-number
 key-past t m v h = rw (at-past t v h)
 
-pub below-less : (p n other k : ℕ) → n ≤ k → other < k → below-or p n other < k
-below-less p n other k h l = go (ltb p n) refl
+pub key-past-own : (t : List ℕ) (m : Mode) (v : ℕ) → pick (ltb v (valueCount t)) (key-number m (tableOf t) v) v ≡ key-number m (tableOf t) v
+key-past-own t m v = go (decLt v (valueCount t))
   where
-    go : (b : Bool) → ltb p n ≡ b → pick b p other < k
-    go true e = let q = borrow.Author.Tests.ltb-true p n e in omega arith
-    go false e = l
+    go : Dec (v < valueCount t) → pick (ltb v (valueCount t)) (key-number m (tableOf t) v) v ≡ key-number m (tableOf t) v
+    go (yes l) = rw (lt-ltb v (valueCount t) l)
+    go (no l) = rw (le-ltb v (valueCount t) (omega arith)) (sym (key-past t m v (omega arith)))
 
 module _ (t : List ℕ) (m : Mode) (v o : ℕ) (h : v < valueCount t) (e : o ≡ offset t (nodeCount t) v) where
   value-is : at (tableOf t) v ≡ valueFrom t o
@@ -44,18 +44,52 @@ module _ (t : List ℕ) (m : Mode) (v o : ℕ) (h : v < valueCount t) (e : o ≡
   unfolding key-number
   key-length k d = rw (value-is, length-from (lenOf t o) t (o + 3), eq-eqb (kindOf t o) 4 k, ne-eqb (lenOf t o) 8 d)
 
-  key-float : kindOf t o ≡ 4 → lenOf t o ≡ 8 → key-number m (tableOf t) v ≡ lead (tableOf t) v (counted m (whole (u64At t (o + 3))))
+  pub key-float : kindOf t o ≡ 4 → lenOf t o ≡ 8 → key-number m (tableOf t) v ≡ lead (tableOf t) v (counted m (whole (u64At t (o + 3))))
   unfolding key-number
   key-float k l = rw (value-is, length-from (lenOf t o) t (o + 3), eq-eqb (kindOf t o) 4 k, l, little-eight t (o + 3))
 
-  pub key-high : kindOf t o ≡ 4 → lenOf t o ≡ 8 → bound m ≤ capped (whole (u64At t (o + 3))) → key-number m (tableOf t) v ≡ v
-  key-high k l g = key-float k l ∙ ap (lead (tableOf t) v) (counted-high m (whole (u64At t (o + 3))) g)
+-- a value is the integer n where it stands neither before nor behind it
+level-is : (k n x : ℕ) → level (pick (ltb k 3) Below (pick (ltb 3 k) Above (side-of n x))) ≡ (eqb k 3 && eqb x n)
+level-is k n x = go (ℕ-discrete k 3) (decLt k 3) (ℕ-discrete x n) (decLt x n)
+  where
+    go : Dec (k ≡ 3) → Dec (k < 3) → Dec (x ≡ n) → Dec (x < n) → level (pick (ltb k 3) Below (pick (ltb 3 k) Above (side-of n x))) ≡ (eqb k 3 && eqb x n)
+    go (yes e) d (yes z) l = rw (e, le-ltb x n (omega arith), eq-eqb x n z)
+    go (yes e) d (no z) (yes l) = rw (e, lt-ltb x n l, ne-eqb x n z)
+    go (yes e) d (no z) (no l) = rw (e, le-ltb x n (omega arith), ne-eqb x n z)
+    go (no e) (yes d) z l = rw (lt-ltb k 3 d, ne-eqb k 3 e)
+    go (no e) (no d) z l = rw (le-ltb k 3 (omega arith), lt-ltb 3 k (omega arith), ne-eqb k 3 e)
 
-  pub key-low : kindOf t o ≡ 4 → lenOf t o ≡ 8 → (x : ℕ) → x ≡ capped (whole (u64At t (o + 3))) → x < bound m
-      → key-number m (tableOf t) v ≡ below-or (lowest (valueCount t) (is-integer (tableOf t) x)) (valueCount t) v
-  key-low k l x q g =
-      let w : counted m (whole (u64At t (o + 3))) ≡ some x = rw q (counted-low m (whole (u64At t (o + 3))) (rw q at g)) in
-      key-float k l ∙ ap (lead (tableOf t) v) w ∙ ap (λ (n : ℕ). below-or (lowest n (is-integer (tableOf t) x)) n v) (length-table t)
+pub level-integer : (n : ℕ) (v : Value) → level (placed n v) ≡ integer-is n v
+level-integer n v = level-is (v .kind) n (magnitude (v .bytes))
+
+-- by the table of where the values start
+module _ (t table : List ℕ) (starts : Starts t table) (u : ℕ) (low : u < 512) (few : u < valueCount t) where
+  start-is : valueFrom t (getD table u 0) ≡ at (tableOf t) u
+  start-is = ap (valueFrom t) (start-at t table starts u low few) ∙ sym (at-table t u few)
+
+  pub short-here : (n : ℕ) → below (placed n (valueFrom t (getD table u 0))) ≡ short-of (tableOf t) n u
+  short-here n = ap (λ (v : Value). below (placed n v)) start-is
+
+  pub level-here : (n : ℕ) → level (placed n (valueFrom t (getD table u 0))) ≡ is-integer (tableOf t) n u
+  level-here n = ap (λ (v : Value). level (placed n v)) start-is ∙ level-integer n (at (tableOf t) u)
+
+-- what stands for a float: nothing that counts, the integer where it is found, else itself
+module _ (vs : List Value) (v : ℕ) where
+  pub lead-none : (m : Mode) (o : Option ℕ) → o ≡ none → v ≡ lead vs v (counted m o)
+  lead-none m o e = sym (ap (λ (x : Option ℕ). lead vs v (counted m x)) e)
+
+  pub lead-not : (m : Mode) (o : Option ℕ) (n : ℕ) → some n ≡ o → counts m n ≡ false → v ≡ lead vs v (counted m o)
+  lead-not m o n e c = sym (ap (λ (x : Option ℕ). lead vs v (counted m x)) (sym e) ∙ ap (λ (b : Bool). lead vs v (only-if b n)) c)
+
+  pub lead-some : (m : Mode) (o : Option ℕ) (n : ℕ) → some n ≡ o → counts m n ≡ true → lead vs v (some n) ≡ lead vs v (counted m o)
+  lead-some m o n e c = sym (ap (λ (x : Option ℕ). lead vs v (counted m x)) (sym e) ∙ ap (λ (b : Bool). lead vs v (only-if b n)) c)
+
+  module _ (n p : ℕ) (found : p ≡ sought vs v n) where
+    pub lead-here : is-integer vs n p ≡ true → p ≡ lead vs v (some n)
+    lead-here e = found ∙ sym (ap (λ (b : Bool). pick b (sought vs v n) v) (subst (λ (u : ℕ). is-integer vs n u ≡ true) found e))
+
+    pub lead-away : is-integer vs n p ≡ false → v ≡ lead vs v (some n)
+    lead-away e = sym (ap (λ (b : Bool). pick b (sought vs v n) v) (subst (λ (u : ℕ). is-integer vs n u ≡ false) found e))
 
 -- ---- the key test by the table
 

@@ -11,8 +11,7 @@ use mathlib.Core.Option.{Option, none, some, Option·none-ne-some, Option·some-
 use lib.Dec.{T, eqb, leb, eqb→eq}
 use lib.ListN.{length, getD}
 use borrow.Author.Tests.{eq-eqb, ne-eqb, eqb-true}
-use Rattle.tree.specs.Bytes.{u16At, nodeCount, valueCount}
-use Rattle.tree.specs.Search.{lowest}
+use Rattle.tree.specs.Bytes.{u16At, nodeCount, valueCount, pick}
 use Rattle.tree.specs.Values.{Value, sense, a-name, a-text, an-integer, a-float, unknown, magnitude, little, form-as, formed, offset}
 use Rattle.tree.specs.Judge.{judged}
 use Rattle.tree.specs.declared.Mode.{Mode}
@@ -20,10 +19,11 @@ use Rattle.tree.specs.declared.Facts.{Facts}
 use Rattle.tree.specs.declared.Judged.the-variants.{Valid}
 use Rattle.tree.specs.Keys.{whole, counted, number-as, number, formed-alike, same-numbers, likeness, like, alike, same-key, reason}
 use Rattle.tree.specs.Table.{tableOf, at}
-use Rattle.tree.specs.code.Numbers.{below-or, integer-is, is-integer, if-so, float-number, lead, key-number, KeyNumbers, like-by}
-use Rattle.tree.proofs.Search.{clash, lowest-clear, lowest-hit, lowest-le}
-use Rattle.tree.proofs.TableLaws.{length-table, at-table, below-found, below-none}
+use Rattle.tree.specs.code.Numbers.{integer-is, is-integer, if-so, float-number, sought, lead, key-number, KeyNumbers, like-by}
+use Rattle.tree.proofs.Search.{clash}
+use Rattle.tree.proofs.TableLaws.{at-table}
 use Rattle.tree.proofs.KeyLaws.{formed-alike→eq, formed-alike-refl, all-bytes, and-left, and-right, both, Same, by-form, by-number, same-means, means-same, same-refl, same-sym, same-trans, one-form}
+use Rattle.tree.proofs.KeySearch.{found}
 use Rattle.tree.proofs.KeyReasons.{said-number}
 use Rattle.tree.proofs.Whole.{sound}
 use Rattle.tree.proofs.ValidTable.{value-formed, one-number, bytes-from}
@@ -92,57 +92,50 @@ module _ (t : List ℕ) (f : Facts) (valid : judged t ≡ Valid f) (bytes : (k :
   -- a float goes to the integer that it counts as, if the table has that
   data Led (v : ℕ) : Type 0 where
     own : key-number m vs v ≡ v → Led v
-    led : (n : ℕ) → float-number m (at vs v) ≡ some n → key-number m vs v < valueCount t → T (integer-is n (at vs (key-number m vs v))) → Led v
+    led : (n : ℕ) → float-number m (at vs v) ≡ some n → T (integer-is n (at vs (key-number m vs v))) → Led v
 
-  lead-to : (v n : ℕ) → float-number m (at vs v) ≡ some n → key-number m vs v ≡ below-or (lowest (valueCount t) (is-integer vs n)) (valueCount t) v
-  unfolding vs key-number
-  lead-to v n e = ap (lead vs v) e ∙ ap (λ (k : ℕ). below-or (lowest k (is-integer vs n)) k v) (length-table t)
+  lead-to : (v n : ℕ) → float-number m (at vs v) ≡ some n → key-number m vs v ≡ pick (is-integer vs n (sought vs v n)) (sought vs v n) v
+  unfolding key-number
+  lead-to v n e = ap (lead vs v) e
 
   lead-own : (v : ℕ) → float-number m (at vs v) ≡ none → key-number m vs v ≡ v
   unfolding key-number
   lead-own v e = ap (lead vs v) e
+
+  lead-found : (v n : ℕ) → float-number m (at vs v) ≡ some n → is-integer vs n (sought vs v n) ≡ true → key-number m vs v ≡ sought vs v n
+  lead-found v n e q = lead-to v n e ∙ ap (λ (b : Bool). pick b (sought vs v n) v) q
 
   leading : (v : ℕ) → Led v
   leading v = go (float-number m (at vs v)) refl
     where
       go : (o : Option ℕ) → float-number m (at vs v) ≡ o → Led v
       go none e = own (lead-own v e)
-      go (some n) e = found (decLt (lowest (valueCount t) (is-integer vs n)) (valueCount t))
+      go (some n) e = found-or (is-integer vs n (sought vs v n)) refl
         where
-          found : Dec (lowest (valueCount t) (is-integer vs n) < valueCount t) → Led v
-          found (yes l) =
-              let q : key-number m vs v ≡ lowest (valueCount t) (is-integer vs n) = lead-to v n e ∙ below-found (valueCount t) _ v (is-integer vs n) refl l in
-              led n e (rw q l) (rw q (so (lowest-hit (valueCount t) (is-integer vs n) l)))
-          found (no l) = own (lead-to v n e ∙ below-none (valueCount t) v (is-integer vs n) (let h = lowest-le (valueCount t) (is-integer vs n) in omega arith))
+          found-or : (b : Bool) → is-integer vs n (sought vs v n) ≡ b → Led v
+          found-or true q = led n e (subst (λ (u : ℕ). T (integer-is n (at vs u))) (sym (lead-found v n e q)) (so q))
+          found-or false q = own (lead-to v n e ∙ ap (λ (b : Bool). pick b (sought vs v n) v) q)
 
   stands : (v : ℕ) → T (same-key m (at vs v) (at vs (key-number m vs v)))
   stands v = go (leading v)
     where
       go : Led v → T (same-key m (at vs v) (at vs (key-number m vs v)))
       go (own e) = rw e (same-refl m (at vs v))
-      go (led n e h i) = means-same m (at vs v) (at vs (key-number m vs v)) (by-number n (float-counts m (at vs v) n e) (integer-number m (at vs (key-number m vs v)) n i .1))
+      go (led n e i) = means-same m (at vs v) (at vs (key-number m vs v)) (by-number n (float-counts m (at vs v) n e) (integer-number m (at vs (key-number m vs v)) n i .1))
 
   integer-own : (a : ℕ) → at vs a .kind ≡ 3 → key-number m vs a ≡ a
   integer-own a k = go (leading a)
     where
       go : Led a → key-number m vs a ≡ a
       go (own e) = e
-      go (led n e h i) = absurd (Option·none-ne-some n (sym (no-float m (at vs a) k) ∙ e))
+      go (led n e i) = absurd (Option·none-ne-some n (sym (no-float m (at vs a) k) ∙ e))
 
   -- an integer of the table, and a float that counts as it
-  meets : (a b n : ℕ) → a < valueCount t → T (integer-is n (at vs a)) → float-number m (at vs b) ≡ some n → key-number m vs b ≡ a
-  meets a b n h i e =
-      let l : lowest (valueCount t) (is-integer vs n) < valueCount t = early (decLt a (lowest (valueCount t) (is-integer vs n))) in
-      let u = lowest (valueCount t) (is-integer vs n) in
-      let j = so (lowest-hit (valueCount t) (is-integer vs n) l) in
-      let x = integer-number m (at vs u) n j in
-      let y = integer-number m (at vs a) n i in
-      lead-to b n e ∙ below-found (valueCount t) u b (is-integer vs n) refl l
-      ∙ alone u a l h (x .0 ∙ sym (y .0)) (means-same m (at vs u) (at vs a) (by-number n (x .1) (y .1)))
-    where
-      early : Dec (a < lowest (valueCount t) (is-integer vs n)) → lowest (valueCount t) (is-integer vs n) < valueCount t
-      early (yes r) = clash (is-so _ i) (lowest-clear (valueCount t) (is-integer vs n) a r)
-      early (no r) = omega arith
+  meets : (a b n : ℕ) → a < valueCount t → b < valueCount t → T (integer-is n (at vs a)) → at vs b .kind ≡ 4 → float-number m (at vs b) ≡ some n → key-number m vs b ≡ a
+  unfolding vs
+  meets a b n h k i q e =
+      let p : sought vs b n ≡ a = found t f valid bytes a b n h k i q in
+      lead-found b n e (is-so _ (subst (λ (u : ℕ). T (integer-is n (at vs u))) (sym p) i)) ∙ p
 
   same-number-of : (a b : ℕ) → a < valueCount t → b < valueCount t → T (same-key m (at vs a) (at vs b)) → key-number m vs a ≡ key-number m vs b
   unfolding vs
@@ -153,8 +146,8 @@ module _ (t : List ℕ) (f : Facts) (valid : judged t ≡ Valid f) (bytes : (k :
 
       cases : (n : ℕ) → Number m (at vs a) n → Number m (at vs b) n → key-number m vs a ≡ key-number m vs b
       cases n (whole-number p i) (whole-number q j) = equal (alone a b h k (p ∙ sym q) s)
-      cases n (whole-number p i) (counted-float q e) = integer-own a p ∙ sym (meets a b n h i e)
-      cases n (counted-float p e) (whole-number q j) = meets b a n k j e ∙ sym (integer-own b q)
+      cases n (whole-number p i) (counted-float q e) = integer-own a p ∙ sym (meets a b n h k i q e)
+      cases n (counted-float p e) (whole-number q j) = meets b a n k h j p e ∙ sym (integer-own b q)
       cases n (counted-float p d) (counted-float q e) = equal (alone a b h k (p ∙ sym q) s)
 
       go : Same m (at vs a) (at vs b) → key-number m vs a ≡ key-number m vs b

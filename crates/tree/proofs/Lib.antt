@@ -6,11 +6,15 @@ pub mod Link
 pub mod TableLaws
 pub mod KeyLaws
 pub mod WholeLaws
+pub mod Halving
+pub mod Magnitudes
 pub mod KeyNumbers
 pub mod Names
 pub mod ValidTable
+pub mod KeySearch
 pub mod KeyReasons
 pub mod KeyTable
+pub mod KeyExact
 pub mod KeySamples
 pub mod Tables
 pub mod Table

@@ -10,12 +10,12 @@ use lib.ListN.{length, getD, set, drop, List·getD-eq-default, drop-of-length-le
 use lib.Seq.{drop-cons, getD-set-same, getD-set-other, ext-getD}
 use lib.Dec.{eqb}
 use borrow.Author.Tests.{lt-ltb, le-ltb, eq-eqb, ne-eqb}
-use Rattle.tree.specs.Bytes.{bytesFrom, same-bytes, u16At, nodeCount, valueCount}
+use Rattle.tree.specs.Bytes.{bytesFrom, same-bytes, u16At, nodeCount, valueCount, pick}
 use Rattle.tree.specs.Search.{lowest}
 use Rattle.tree.specs.Values.{onward, offset}
 use Rattle.tree.specs.code.Stages.{valueNo}
 use Rattle.tree.specs.Table.{valuesFrom, tableOf, no-value, at, listed-from}
-use Rattle.tree.specs.code.Numbers.{below-or, Traits, KeyNumbers}
+use Rattle.tree.specs.code.Numbers.{below-or, Traits, Starts, KeyNumbers}
 use Rattle.tree.specs.declared.Mode.{Mode}
 
 length-values : (k : ℕ) (t : List ℕ) (o : ℕ) → length (valuesFrom k t o) ≡ k
@@ -148,3 +148,9 @@ traits-one f a b p q g h = ext-getD false a b (p ∙ sym q) (λ i l. g i (omega 
 
 pub key-numbers-one : (t : List ℕ) (m : Mode) (a b : List ℕ) → length a ≡ 512 → length b ≡ 512 → KeyNumbers t m a → KeyNumbers t m b → a ≡ b
 key-numbers-one t m a b p q g h = ext-getD 0 a b (p ∙ sym q) (λ i l. g i (omega arith) ∙ sym (h i (omega arith)))
+
+pub starts-one : (t a b : List ℕ) → Starts t a → Starts t b → a ≡ b
+starts-one t a b g h = ext-getD 0 a b (g .long ∙ sym (h .long)) (λ i l. g .at-each i (omega (arith, g .long)) ∙ sym (h .at-each i (omega (arith, g .long))))
+
+pub start-at : (t table : List ℕ) → Starts t table → (v : ℕ) → v < 512 → v < valueCount t → getD table v 0 ≡ offset t (nodeCount t) v
+start-at t table s v h k = s .at-each v h ∙ ap (λ (b : Bool). pick b (offset t (nodeCount t) v) 0) (lt-ltb v (valueCount t) k)

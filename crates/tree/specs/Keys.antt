@@ -1,4 +1,4 @@
--- 01, "Keys", and 02, §11: which numbers values stand for, when two of them are the same key, and why. Assumes nothing.
+-- 01, "Keys", and 02, §2 and §11: which numbers values stand for, when two of them are the same key, and why. Assumes nothing.
 use Prim.Native.Nat.{ℕ, zero, suc, _+_, _*_, _/_, _%_, _^_}
 use mathlib.Core.Bool.{Bool, true, false, _&&_}
 use mathlib.Core.List.{List}
@@ -38,13 +38,11 @@ only-if false n = none
 abbrev pub whole : ℕ → Option ℕ
 whole b = only-if (finite b && eqb (grains b % 2 ^ 1074) 0) (grains b / 2 ^ 1074)
 
--- "A float that is a whole i32 is that integer"; strict: "a whole float below 2^53 equals the integer of that value"
-abbrev pub bound : Mode → ℕ
-bound Ordinary = 2 ^ 31
-bound Strict = 2 ^ 53
-
+-- "A float that is a whole i32 is that integer"; strict, as 02, §2 amends it: "Every finite whole float equals its integer, however large;
+-- an infinity equals only itself."
 abbrev pub counts : Mode → ℕ → Bool
-counts m n = ltb n (bound m)
+counts Ordinary n = ltb n (2 ^ 31)
+counts Strict n = true
 
 abbrev pub counted : Mode → Option ℕ → Option ℕ
 counted m none = none

@@ -7,5 +7,6 @@ pub mod Part
 pub mod Find
 pub mod Shape
 pub mod Sound
+pub mod Halving
 pub mod Numbers
 pub mod Samples

@@ -1,149 +1,218 @@
-// The key test: 01's "Keys" and 02's §11, in both modes. Cost: for the table a walk over the values, and one more for each float that
-// counts as an integer; 1 KiB of stack for its 512 numbers. A test looks into it at most twice.
+// The key test: 01's "Keys" and 02's §2 and §11, in both modes. Cost: for the table a walk over the values, and for each float that counts
+// as an integer one search by halving; 5 KiB of stack for the 512 numbers and where the values start. A test looks into the table at most twice.
 ghost use mathlib.Core.Path.{_≡_};
-ghost use Prim.Native.Nat.{_<_, _≤_, _^_};
+ghost use mathlib.Core.Option.{some};
+ghost use Prim.Native.Nat.{_+_, _<_, _≤_, min};
 ghost use lib.Dec.{eqb};
 ghost use lib.ListN.{getD};
-ghost use Rattle.tree.specs.Bytes.{bytesFrom, nodeCount, valueCount};
-ghost use Rattle.tree.specs.Search.{lowest};
-ghost use Rattle.tree.specs.Values.{magnitude, valueFrom, offset};
-ghost use Rattle.tree.specs.Keys.{bound, whole};
-ghost use Rattle.tree.specs.code.Offsets.{capped};
+ghost use Rattle.tree.specs.Bytes.{bytesFrom, valueCount};
+ghost use Rattle.tree.specs.Values.{magnitude, valueFrom};
+ghost use Rattle.tree.specs.Keys.{whole, counted};
 ghost use Rattle.tree.specs.Table.{tableOf};
-ghost use Rattle.tree.specs.code.Numbers.{integer-is, is-integer, below-or, key-number, KeyNumbers, like-by};
+ghost use Rattle.tree.specs.code.Halving.{halved};
+ghost use Rattle.tree.specs.code.Numbers.{below, level, side-of, placed, short-of, lead, key-number, OwnNumbers, KeyNumbers, valued, Fit, Starts, like-by};
 use crate::Likeness;
 use crate::Mode;
 use crate::bytes::byte_at;
 use crate::bytes::narrow;
-use crate::bytes::node_count;
 use crate::bytes::u16_at;
 use crate::bytes::u64_at;
-use crate::bytes::value_count;
 use crate::bytes::widen;
+use crate::floats::Float;
+use crate::floats::Spelled;
+use crate::floats::counts_in;
+use crate::floats::float_of;
+use crate::lookup::few_values;
+use crate::lookup::starts;
 
-// The floats that count as integers are whole and below this.
-fn bound_of(mode: Mode) -> usize
-    ensures { λ r. ⌜ (r ≡ bound mode) × (r ≤ 9007199254740992) ⌝ }
-{
-    match mode {
-        Mode::Ordinary => 2147483648,
-        Mode::Strict => 9007199254740992,
-    }
+// Where an integer stands against a whole number.
+enum Side {
+    Below,
+    Equal,
+    Above,
 }
 
-// 2 to the s.
-fn power(s: usize) -> usize
-    requires { ⌜ s ≤ 52 ⌝ }
-    ensures { λ r. ⌜ (r ≡ 2 ^ s) × (1 ≤ r) × (r ≤ 4503599627370496) ⌝ }
+// The magnitude of the k bytes from o on, high byte first, where it is at most x; else x + 1.
+fn leading(t: &[u8], k: usize, o: usize, x: usize) -> usize
+    requires { ⌜ (k < 65536) × (o < 4400000000) × (x < 1152921504606846976) ⌝ }
+    ensures { λ r. ⌜ r ≡ min (magnitude (bytesFrom k (now (t .entry)) o)) (x + 1) ⌝ }
 {
-    let mut p = 1;
-    let mut i = 0;
-    while i < s {
-        p = p + p;
-        i += 1;
-    }
-    p
-}
-
-// The whole number that the float of these 64 bits is, if it is below 2^53; else 2^53.
-fn whole_of(b: usize) -> usize
-    ensures { λ r. ⌜ r ≡ capped (whole b) ⌝ }
-{
-    if b == 0 {
-        return 0;
-    }
-    let field = b / 4503599627370496;
-    if field < 1023 {
-        return 9007199254740992;
-    }
-    if 1075 < field {
-        return 9007199254740992;
-    }
-    let point = power(1075 - field);
-    let digits = 4503599627370496 + b % 4503599627370496;
-    if digits % point == 0 {
-        return digits / point;
-    }
-    9007199254740992
-}
-
-// The k bytes from o on are a magnitude, high byte first, that is x.
-fn magnitude_is(t: &[u8], k: usize, o: usize, x: usize) -> bool
-    requires { ⌜ (k < 65536) × (o < 4400000000) × (x < 9007199254740992) ⌝ }
-    ensures { λ r. ⌜ r ≡ eqb (magnitude (bytesFrom k (now (t .entry)) o)) x ⌝ }
-{
+    let most = x / 256;
     let mut a = 0;
     let mut i = 0;
     while i < k {
+        if most < a {
+            return x + 1;
+        }
         a = a * 256 + byte_at(t, o + i);
-        if x < a {
+        i += 1;
+    }
+    if x < a {
+        return x + 1;
+    }
+    a
+}
+
+// The k bytes from o on are zero.
+fn all_zero(t: &[u8], k: usize, o: usize) -> bool
+    requires { ⌜ (k < 65536) × (o < 4400000000) ⌝ }
+    ensures { λ r. ⌜ r ≡ eqb (magnitude (bytesFrom k (now (t .entry)) o)) 0 ⌝ }
+{
+    let mut i = 0;
+    while i < k {
+        if byte_at(t, o + i) != 0 {
             return false;
         }
         i += 1;
     }
-    a == x
+    true
 }
 
-// The value at o is the integer x.
-fn integer_at(t: &[u8], o: usize, x: usize) -> bool
-    requires { ⌜ (o < 4300000000) × (x < 9007199254740992) ⌝ }
-    ensures { λ r. ⌜ r ≡ integer-is x (valueFrom (now (t .entry)) o) ⌝ }
+// The magnitude of the k bytes from o on against w, byte by byte.
+fn bytes_side(t: &[u8], k: usize, o: usize, w: Spelled) -> Side
+    requires { ⌜ (k < 65536) × (o < 4300000003) × Fit w ⌝ }
+    ensures { λ r. ⌜ r ≡ side-of (valued w) (magnitude (bytesFrom k (now (t .entry)) o)) ⌝ }
 {
-    if byte_at(t, o) != 3 {
-        return false;
+    if k < w.zeros {
+        return Side::Below;
     }
-    magnitude_is(t, u16_at(t, o + 1), o + 3, x)
+    let first = k - w.zeros;
+    let a = leading(t, first, o, w.head);
+    if a < w.head {
+        return Side::Below;
+    }
+    if w.head < a {
+        return Side::Above;
+    }
+    if all_zero(t, w.zeros, o + first) {
+        return Side::Equal;
+    }
+    Side::Above
 }
 
-// The first value that is the integer x; other where there is none.
-fn integer_number(t: &[u8], x: usize, other: usize) -> usize
-    requires { ⌜ x < 9007199254740992 ⌝ }
-    ensures { λ r. ⌜ r ≡ below-or (lowest (valueCount (now (t .entry))) (is-integer (tableOf (now (t .entry))) x)) (valueCount (now (t .entry))) other ⌝ }
+// The value at o against w: other kinds stand before the integers, or behind them.
+fn value_side(t: &[u8], o: usize, w: Spelled) -> Side
+    requires { ⌜ (o < 4300000000) × Fit w ⌝ }
+    ensures { λ r. ⌜ r ≡ placed (valued w) (valueFrom (now (t .entry)) o) ⌝ }
 {
-    let nv = value_count(t);
-    let mut at = 11 + 16 * node_count(t);
-    let mut v = 0;
-    while v < nv {
-        if integer_at(t, at, x) {
-            return v;
+    let kind = byte_at(t, o);
+    if kind < 3 {
+        return Side::Below;
+    }
+    if 3 < kind {
+        return Side::Above;
+    }
+    bytes_side(t, u16_at(t, o + 1), o + 3, w)
+}
+
+fn is_below(t: &[u8], o: usize, w: Spelled) -> bool
+    requires { ⌜ (o < 4300000000) × Fit w ⌝ }
+    ensures { λ r. ⌜ r ≡ below (placed (valued w) (valueFrom (now (t .entry)) o)) ⌝ }
+{
+    let s = value_side(t, o, w);
+    match s {
+        Side::Below => true,
+        Side::Equal => false,
+        Side::Above => false,
+    }
+}
+
+fn is_equal(t: &[u8], o: usize, w: Spelled) -> bool
+    requires { ⌜ (o < 4300000000) × Fit w ⌝ }
+    ensures { λ r. ⌜ r ≡ level (placed (valued w) (valueFrom (now (t .entry)) o)) ⌝ }
+{
+    let s = value_side(t, o, w);
+    match s {
+        Side::Below => false,
+        Side::Equal => true,
+        Side::Above => false,
+    }
+}
+
+// By halving: the first of the n values that isn't below w; n where there is none.
+fn place(t: &[u8], starts: &[usize; 512], n: usize, w: Spelled) -> usize
+    requires { ⌜ Starts (now t) (now starts) × (n ≤ 512) × (n ≤ valueCount (now t)) × Fit w ⌝ }
+    ensures { λ r. ⌜ (r ≡ halved n (short-of (tableOf (now (t .entry))) (valued w))) × (r ≤ n) ⌝ }
+{
+    let mut lo = 0;
+    let mut left = n;
+    while 0 < left {
+        let half = left / 2;
+        if is_below(t, starts[lo + half], w) {
+            lo = lo + half + 1;
+            left = left - half - 1;
+        } else {
+            left = half;
         }
-        at = at + 3 + u16_at(t, at + 1);
-        v += 1;
     }
-    other
+    lo
 }
 
-// What stands for value v, which starts at o.
-fn key_at(t: &[u8], mode: Mode, v: usize, o: usize) -> usize
-    requires { ⌜ (v < 512) × (o < 4300000000) × (o ≡ offset (now t) (nodeCount (now t)) v) ⌝ }
+// The integer w among the values before v; v where there is none.
+fn integer_number(t: &[u8], starts: &[usize; 512], v: usize, w: Spelled) -> usize
+    requires { ⌜ Starts (now t) (now starts) × (v < 512) × (v < valueCount (now t)) × Fit w ⌝ }
+    ensures { λ r. ⌜ (r ≡ lead (tableOf (now (t .entry))) v (some (valued w))) × (r < 65536) ⌝ }
+{
+    let p = place(t, starts, v, w);
+    if is_equal(t, starts[p], w) {
+        return p;
+    }
+    v
+}
+
+// What stands for the float of these 64 bits, value v.
+fn float_key(t: &[u8], starts: &[usize; 512], mode: Mode, v: usize, b: usize) -> usize
+    requires { ⌜ Starts (now t) (now starts) × (v < 512) × (v < valueCount (now t)) ⌝ }
+    ensures { λ r. ⌜ (r ≡ lead (tableOf (now (t .entry))) v (counted mode (whole b))) × (r < 65536) ⌝ }
+{
+    let f = float_of(b);
+    let Float::Whole(w) = f else {
+        return v;
+    };
+    if counts_in(mode, w) {
+        return integer_number(t, starts, v, w);
+    }
+    v
+}
+
+// What stands for value v.
+fn key_at(t: &[u8], starts: &[usize; 512], mode: Mode, v: usize) -> usize
+    requires { ⌜ Starts (now t) (now starts) × (v < 512) × (v < valueCount (now t)) ⌝ }
     ensures { λ r. ⌜ (r ≡ key-number mode (tableOf (now (t .entry))) v) × (r < 65536) ⌝ }
 {
-    if value_count(t) <= v {
-        return v;
-    }
+    let o = starts[v];
     if byte_at(t, o) != 4 {
         return v;
     }
     if u16_at(t, o + 1) != 8 {
         return v;
     }
-    let x = whole_of(u64_at(t, o + 3));
-    if bound_of(mode) <= x {
-        return v;
+    float_key(t, starts, mode, v, u64_at(t, o + 3))
+}
+
+// Each value number below 512, standing for itself.
+fn own_numbers() -> [u16; 512]
+    ensures { λ r. ⌜ OwnNumbers r ⌝ }
+{
+    let mut keys = [0u16; 512];
+    let mut v = 0;
+    while v < 512 {
+        keys[v] = narrow(v);
+        v += 1;
     }
-    integer_number(t, x, v)
+    keys
 }
 
 // For each value number below 512 the number that stands for its key.
 pub fn key_numbers(t: &[u8], mode: Mode) -> [u16; 512]
     ensures { λ r. ⌜ KeyNumbers (now (t .entry)) mode r ⌝ }
 {
-    let mut keys = [0u16; 512];
-    let mut at = 11 + 16 * node_count(t);
+    let mut keys = own_numbers();
+    let starts = starts(t);
+    let few = few_values(t);
     let mut v = 0;
-    while v < 512 {
-        keys[v] = narrow(key_at(t, mode, v, at));
-        at = at + 3 + u16_at(t, at + 1);
+    while v < few {
+        keys[v] = narrow(key_at(t, &starts, mode, v));
         v += 1;
     }
     keys

@@ -21,6 +21,7 @@ use values::offset_of;
 
 pub mod bytes;
 pub mod children;
+mod floats;
 pub mod keys;
 pub mod lookup;
 mod nodes;
@@ -93,7 +94,7 @@ pub enum Judged {
     Refused(Refusal),
 }
 
-// Key equality. Ordinary: whole floats of i32 are integers. Strict: whole floats below 2^53 are.
+// Key equality. Ordinary: whole floats of i32 are integers. Strict: whole floats of every size are.
 pub enum Mode {
     Ordinary,
     Strict,

@@ -2,13 +2,13 @@
 // Cost: a walk over the values or the globals a call; the table of strings is 512 bytes, filled once and read by value number.
 ghost use mathlib.Core.Path.{_≡_};
 ghost use mathlib.Core.Bool.{not};
-ghost use Prim.Native.Nat.{_<_};
+ghost use Prim.Native.Nat.{_<_, min};
 ghost use lib.Dec.{eqb};
 ghost use lib.ListN.{length};
-ghost use Rattle.tree.specs.Bytes.{bytesFrom, same-bytes, nodeCount, globalCount};
+ghost use Rattle.tree.specs.Bytes.{bytesFrom, same-bytes, nodeCount, valueCount, globalCount};
 ghost use Rattle.tree.specs.Values.{valueFrom, offset};
 ghost use Rattle.tree.specs.Table.{listed, tableOf, named-so, underscored, a-string, is-global};
-ghost use Rattle.tree.specs.code.Numbers.{numberNamed, Traits};
+ghost use Rattle.tree.specs.code.Numbers.{numberNamed, Traits, Starts};
 use crate::bytes::byte_at;
 use crate::bytes::bytes_are;
 use crate::bytes::global_count;
@@ -46,6 +46,33 @@ pub fn number_of(t: &[u8], name: &[u8]) -> usize
         v += 1;
     }
     65536
+}
+
+// How many of its values a table of 512 holds.
+pub(crate) fn few_values(t: &[u8]) -> usize
+    ensures { λ r. ⌜ r ≡ min (valueCount (now (t .entry))) 512 ⌝ }
+{
+    let nv = value_count(t);
+    if nv < 512 {
+        return nv;
+    }
+    512
+}
+
+// Where each value starts; 0 past the last.
+pub fn starts(t: &[u8]) -> [usize; 512]
+    ensures { λ r. ⌜ Starts (now (t .entry)) r ⌝ }
+{
+    let mut table = [0usize; 512];
+    let few = few_values(t);
+    let mut at = 11 + 16 * node_count(t);
+    let mut v = 0;
+    while v < few {
+        table[v] = at;
+        at = at + 3 + u16_at(t, at + 1);
+        v += 1;
+    }
+    table
 }
 
 // Value v, which starts at o, is a name that begins with an underscore.

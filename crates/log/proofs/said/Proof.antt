@@ -1,4 +1,5 @@
 use mathlib.Core.Path.{subst, sym}
+use Rattle.tree.proofs.TableLaws.{start-at}
 use Rattle.log.proofs.Shapes.{no-value-text}
 use Rattle.log.proofs.Valued.{value-in, value-past}
 use Rattle.log.specs.Pieces.{message-end, Here}
@@ -44,7 +45,7 @@ value-requires c κs =
     let small = c .before .before .before .before .before .before .pre .0 in
     let starts = c .before .before .before .before .before .before .pre .1 in
     let h : v < valueCount t = omega (arith, c .before .before .before .value-count .ensures .0, c .before .before .if1 .left) in
-    subst (λ (o : ℕ). Here t o) (sym (starts .at-each v (omega (arith, small .few)))) (small .here v h)
+    subst (λ (o : ℕ). Here t o) (sym (start-at t _ starts v (omega (arith, small .few)) h)) (small .here v h)
 
 same-length-2 : tie.Need-same-length-2
 same-length-2 c = search needs
@@ -56,7 +57,7 @@ returns-2 c =
     let small = c .before .before .before .before .before .before .before .before .before .pre .0 in
     let starts = c .before .before .before .before .before .before .before .before .before .pre .1 in
     let h : v < valueCount t = omega (arith, c .before .before .before .before .before .before .value-count .ensures .0, c .before .before .before .before .before .if1 .left) in
-    retold 1568 (message-end (value-of (tableOf t) v)) (c .before .before .value .ensures) (omega arith) (λ rest. rw (starts .at-each v (omega (arith, small .few)), value-in t v h))
+    retold 1568 (message-end (value-of (tableOf t) v)) (c .before .before .value .ensures) (omega arith) (λ rest. rw (start-at t _ starts v (omega (arith, small .few)) h, value-in t v h))
 
 pub said-spec : {M : Type 1} → statement M
 said-spec =

@@ -1,8 +1,6 @@
--- What private functions promise, by offsets and in 64 bits; proofs/Link and proofs/WholeLaws tie it to the definitions of
--- Values and Keys. Assumes nothing.
-use Prim.Native.Nat.{ℕ, zero, suc, _+_, _*_, _^_, min}
+-- What private functions promise, by offsets and in 64 bits; proofs/Link ties it to the definitions of Values. Assumes nothing.
+use Prim.Native.Nat.{ℕ, zero, suc, _+_, _*_}
 use mathlib.Core.List.{List}
-use mathlib.Core.Option.{Option, none, some}
 use mathlib.Core.Bool.{Bool, true, false, _&&_, _||_, not}
 use lib.ListN.{getD}
 use lib.Dec.{leb, ltb, eqb}
@@ -48,8 +46,3 @@ orderedAt t a b =
     (pick (ltb (kindOf t b) (kindOf t a)) false
     (pick (ltb (lenOf t a) (lenOf t b)) true
     (pick (ltb (lenOf t b) (lenOf t a)) false (bytesLess (lenOf t a) t (a + 3) (b + 3)))))
-
--- the whole number that a float is: 2 ^ 53 stands for none and for all that are too large to count
-abbrev pub capped : Option ℕ → ℕ
-capped none = 2 ^ 53
-capped (some n) = min n (2 ^ 53)

@@ -1,113 +1,56 @@
--- The invariant: at is where value v starts, and no value before v is the one sought.
-use borrow.Author.Needs.{needs}
-use Prim.Native.Nat.{_+_, _*_, _-_, _≤_, _<_}
 use native.Mathlib.Omega.{arith}
-use mathlib.Core.Path.{_≡_, refl, sym, _∙_}
-use mathlib.Core.Bool.{true, false}
-use Rattle.tree.specs.Bytes.{nodeCount, valueCount}
-use Rattle.tree.specs.Search.{first, lowest}
-use Rattle.tree.specs.Values.{offset}
-use Rattle.tree.specs.Table.{tableOf, at}
-use Rattle.tree.specs.code.Numbers.{is-integer}
-use Rattle.tree.proofs.Search.{first-start, first-here, first-next, first-end}
-use Rattle.tree.proofs.ValueLaws.{offset-next, offset-start}
-use Rattle.tree.proofs.TableLaws.{at-table, below-found, below-none}
+use mathlib.Core.Path.{sym, _∙_}
+use Rattle.tree.specs.Table.{tableOf}
+use Rattle.tree.specs.code.Numbers.{valued}
+use Rattle.tree.proofs.Fields.{offset-low}
+use Rattle.tree.proofs.TableLaws.{start-at}
+use Rattle.tree.proofs.KeyNumbers.{level-here, lead-here, lead-away}
+use borrow.Author.Needs.{needs}
 use Rattle.tree.proofs.keys.integer_number.Statement.{statement}
 use Rattle.tree.proofs.keys.integer_number.Tie as tie
 
-abbrev Inv-loop : tie.InvT-loop
-Inv-loop t x other nv at₀ v₀ at v = (v ≤ valueCount t) × ((at ≤ 1048571 + 65538 * v) × ((at ≡ offset t (nodeCount t) v) × (first (valueCount t - v) v (is-integer (tableOf t) x) ≡ lowest (valueCount t) (is-integer (tableOf t) x))))
+place-requires : tie.Need-place-requires
+place-requires c κs = search needs
 
-abbrev μ-loop : tie.MeasureT-loop
-μ-loop t x other nv at₀ v₀ at v = nv - v
+mul-is-equal : tie.Need-mul-is-equal
+mul-is-equal c = search needs
 
-value-count-requires : tie.Need-value-count-requires Inv-loop μ-loop
-value-count-requires c κs = search needs
+element-copy-out-is-equal : tie.Need-element-copy-out-is-equal
+element-copy-out-is-equal c = search needs
 
-node-count-requires : tie.Need-node-count-requires Inv-loop μ-loop
-node-count-requires c κs = search needs
-
-mul-at : tie.Need-mul-at Inv-loop μ-loop
-mul-at c = search needs
-
-add-at : tie.Need-add-at Inv-loop μ-loop
-add-at c = search needs
-
-loop-holds : tie.Need-loop-holds Inv-loop μ-loop
-loop-holds c =
+is-equal-requires : tie.Need-is-equal-requires
+is-equal-requires c κs =
     let t = c .before .before .before .args .t .now in
-    let x = c .before .before .before .args .x in
-    let n = c .node-count .ensures .0 in
-    (search needs, (omega (arith, c .node-count .ensures .1), (rw (offset-start t (nodeCount t)) (omega arith), first-start (valueCount t) (is-integer (tableOf t) x))))
+    let p = c .before .place .result in
+    let e = start-at t (c .before .before .before .args .starts .now) (c .before .before .before .pre .0) p (omega (arith, c .before .place .ensures .1)) (omega (arith, c .before .place .ensures .1)) in
+    let l = offset-low t (λ j. omega (arith, c .before .before .shared-slice-known .given j)) p in
+    (omega (arith, e, l, c .before .place .ensures .1), c .before .before .before .pre .3)
 
-integer-at-requires : tie.Need-integer-at-requires Inv-loop μ-loop
-integer-at-requires c κs = search needs
-
-returns : tie.Need-returns Inv-loop μ-loop
+returns : tie.Need-returns
 returns c =
-    let t = c .before .before .before .before .before .before .before .args .t .now in
-    let x = c .before .before .before .before .before .before .before .args .x in
-    let v = c .before .before .before .loop .v in
-    let h : v < valueCount t = omega (arith, c .before .before .before .before .before .value-count .ensures .0, c .before .before .loop-test .taken) in
-    let z : is-integer (tableOf t) x v ≡ true = rw (at-table t v h, ← c .before .before .before .loop .inv .1 .1 .0) (sym (c .before .integer-at .ensures) ∙ (c .if1 .taken)) in
-    sym (below-found (valueCount t) v (c .before .before .before .before .before .before .before .args .other) (is-integer (tableOf t) x) (sym (c .before .before .before .loop .inv .1 .1 .1) ∙ first-here (valueCount t) v (is-integer (tableOf t) x) h z) h)
+    let t = c .before .before .before .before .before .args .t .now in
+    let v = c .before .before .before .before .before .args .v in
+    let n = valued (c .before .before .before .before .before .args .w) in
+    let p = c .before .before .before .place .result in
+    let e = sym (level-here t (c .before .before .before .before .before .args .starts .now) (c .before .before .before .before .before .pre .0) p (omega (arith, c .before .before .before .place .ensures .1)) (omega (arith, c .before .before .before .place .ensures .1)) n) ∙ (sym (c .before .is-equal .ensures) ∙ c .if1 .taken) in
+    (lead-here (tableOf t) v n p (c .before .before .before .place .ensures .0) e, omega (arith, c .before .before .before .place .ensures .1))
 
-add-at-2 : tie.Need-add-at-2 Inv-loop μ-loop
-add-at-2 c = search needs
-
-add-u16-at : tie.Need-add-u16-at Inv-loop μ-loop
-add-u16-at c = search needs
-
-u16-at-requires : tie.Need-u16-at-requires Inv-loop μ-loop
-u16-at-requires c κs = search needs
-
-add-at-3 : tie.Need-add-at-3 Inv-loop μ-loop
-add-at-3 c = search needs
-
-add-v : tie.Need-add-v Inv-loop μ-loop
-add-v c = search needs
-
-loop-less : tie.Need-loop-less Inv-loop μ-loop
-loop-less c = search needs
-
-loop-again : tie.Need-loop-again Inv-loop μ-loop
-loop-again c =
-    let t = c .before .before .before .before .before .before .before .before .args .t .now in
-    let x = c .before .before .before .before .before .before .before .before .args .x in
-    let v = c .before .before .before .before .loop .v in
-    let h : v < valueCount t = omega (arith, c .before .before .before .before .before .before .value-count .ensures .0, c .before .before .before .loop-test .taken) in
-    let f = c .before .before .before .before .loop .inv .1 .1 .0 in
-    let e = c .u16-at .ensures .0 in
-    let z : is-integer (tableOf t) x v ≡ false = rw (at-table t v h, ← f) (sym (c .before .before .integer-at .ensures) ∙ (c .before .if1 .left)) in
-    (omega arith, (omega (arith, c .u16-at .ensures .1, c .before .before .before .before .loop .inv .1 .0), (rw offset-next (rw (← f) (rw (← e) refl)), first-next (valueCount t) v (is-integer (tableOf t) x) h z ∙ c .before .before .before .before .loop .inv .1 .1 .1)))
-
-returns-2 : tie.Need-returns-2 Inv-loop μ-loop
+returns-2 : tie.Need-returns-2
 returns-2 c =
     let t = c .before .before .before .before .before .args .t .now in
-    let x = c .before .before .before .before .before .args .x in
-    let v = c .before .loop .v in
-    let q : v ≡ valueCount t = omega (arith, c .before .before .before .value-count .ensures .0, c .loop-test .left, c .before .loop .inv .0) in
-    let e = sym (first-end (valueCount t) v (is-integer (tableOf t) x) (omega arith)) ∙ c .before .loop .inv .1 .1 .1 in
-    sym (below-none (valueCount t) (c .before .before .before .before .before .args .other) (is-integer (tableOf t) x) (sym e ∙ q))
+    let v = c .before .before .before .before .before .args .v in
+    let n = valued (c .before .before .before .before .before .args .w) in
+    let p = c .before .before .before .place .result in
+    let e = sym (level-here t (c .before .before .before .before .before .args .starts .now) (c .before .before .before .before .before .pre .0) p (omega (arith, c .before .before .before .place .ensures .1)) (omega (arith, c .before .before .before .place .ensures .1)) n) ∙ (sym (c .before .is-equal .ensures) ∙ c .if1 .left) in
+    (lead-away (tableOf t) v n p (c .before .before .before .place .ensures .0) e, omega (arith, c .before .before .before .place .ensures .1))
 
 pub integer-number-spec : {M : Type 1} → statement M
 integer-number-spec =
     tie.close
     (tie.spec
-    Inv-loop
-    μ-loop
-    value-count-requires
-    node-count-requires
-    mul-at
-    add-at
-    loop-holds
-    integer-at-requires
+    place-requires
+    mul-is-equal
+    element-copy-out-is-equal
+    is-equal-requires
     returns
-    add-at-2
-    add-u16-at
-    u16-at-requires
-    add-at-3
-    add-v
-    loop-less
-    loop-again
     returns-2)

@@ -1,42 +1,42 @@
--- The invariant: at is where value v starts, and the table is right below v.
+-- The invariant: the table is right below v, and has each later number for itself.
 use borrow.Author.Needs.{needs}
-use Prim.Native.Nat.{ℕ, _+_, _*_, _-_, _≤_, _<_}
+use Prim.Native.Nat.{ℕ, _-_, _≤_, _<_}
 use native.Mathlib.Omega.{arith}
-use mathlib.Core.Path.{_≡_, refl, _∙_}
-use lib.ListN.{length, getD, length-set, length-replicate}
-use Rattle.tree.specs.Bytes.{nodeCount}
-use Rattle.tree.specs.Values.{offset}
-use Rattle.tree.specs.Table.{tableOf, at}
+use mathlib.Core.Path.{_≡_, sym, _∙_}
+use borrow.Author.Tests.{le-ltb}
+use lib.Dec.{ltb}
+use lib.ListN.{length, getD, length-set}
+use Rattle.tree.specs.Bytes.{valueCount, pick}
+use Rattle.tree.specs.Table.{tableOf}
 use Rattle.tree.specs.code.Numbers.{key-number}
-use Rattle.tree.proofs.ValueLaws.{offset-next, offset-start}
-use Rattle.tree.proofs.Tables.{entry-more}
+use Rattle.tree.proofs.KeyNumbers.{key-past-own}
+use Rattle.tree.proofs.Tables.{filled-more, filled-all}
 use Rattle.tree.proofs.keys.key_numbers.Statement.{statement}
 use Rattle.tree.proofs.keys.key_numbers.Tie as tie
 
 abbrev Inv-loop : tie.InvT-loop
-Inv-loop t mode keys₀ at₀ v₀ keys at v = (v ≤ 512) × ((length keys ≡ 512) × ((at ≤ 1048571 + 65538 * v) × ((at ≡ offset t (nodeCount t) v) × ((k : ℕ) → k < v → getD keys k 0 ≡ key-number mode (tableOf t) k))))
+Inv-loop t mode keys₀ starts few v₀ keys v = (v ≤ few) × (length keys ≡ 512) × ((k : ℕ) → k < 512 → getD keys k 0 ≡ pick (ltb k v) (key-number mode (tableOf t) k) k)
 
 abbrev μ-loop : tie.MeasureT-loop
-μ-loop t mode keys₀ at₀ v₀ keys at v = 512 - v
+μ-loop t mode keys₀ starts few v₀ keys v = few - v
 
-node-count-requires : tie.Need-node-count-requires Inv-loop μ-loop
-node-count-requires c κs = search needs
+own-numbers-requires : tie.Need-own-numbers-requires Inv-loop μ-loop
+own-numbers-requires c κs = search needs
 
-mul-at : tie.Need-mul-at Inv-loop μ-loop
-mul-at c = search needs
+starts-requires : tie.Need-starts-requires Inv-loop μ-loop
+starts-requires c κs = search needs
 
-add-at : tie.Need-add-at Inv-loop μ-loop
-add-at c = search needs
+few-values-requires : tie.Need-few-values-requires Inv-loop μ-loop
+few-values-requires c κs = search needs
 
 loop-holds : tie.Need-loop-holds Inv-loop μ-loop
 loop-holds c =
-    let t = c .before .before .args .t .now in
-    let n = c .node-count .ensures .0 in
-    (search needs, (length-replicate {A = ℕ} 512 0, (omega (arith, c .node-count .ensures .1), (rw (offset-start t (nodeCount t)) (omega arith), λ k h. absurd (omega arith)))))
+    let own = c .before .before .own-numbers .ensures in
+    (search needs, own .long, λ k h. rw (le-ltb k 0 (omega arith)) (own .at-each k h))
 
 key-at-requires : tie.Need-key-at-requires Inv-loop μ-loop
 key-at-requires c κs =
-    (omega arith, omega arith, c .before .loop .inv .1 .1 .1 .0)
+    (c .before .before .before .before .starts .ensures, omega (arith, c .before .before .before .few-values .ensures), omega (arith, c .before .before .before .few-values .ensures))
 
 narrow-requires : tie.Need-narrow-requires Inv-loop μ-loop
 narrow-requires c κs =
@@ -48,18 +48,6 @@ mul-keys c = search needs
 array-write-keys : tie.Need-array-write-keys Inv-loop μ-loop
 array-write-keys c = search needs
 
-add-at-2 : tie.Need-add-at-2 Inv-loop μ-loop
-add-at-2 c = search needs
-
-add-u16-at : tie.Need-add-u16-at Inv-loop μ-loop
-add-u16-at c = search needs
-
-u16-at-requires : tie.Need-u16-at-requires Inv-loop μ-loop
-u16-at-requires c κs = search needs
-
-add-at-3 : tie.Need-add-at-3 Inv-loop μ-loop
-add-at-3 c = search needs
-
 add-v : tie.Need-add-v Inv-loop μ-loop
 add-v c = search needs
 
@@ -68,27 +56,18 @@ loop-less c = search needs
 
 loop-again : tie.Need-loop-again Inv-loop μ-loop
 loop-again c =
-    let t = c .before .before .before .before .before .before .before .args .t .now in
-    let m = c .before .before .before .before .before .before .before .args .mode in
-    let v = c .before .before .before .before .loop .v in
-    let f = c .before .before .before .before .loop .inv .1 .1 .1 .0 in
-    let e = c .u16-at .ensures .0 in (
-      omega arith,
-      (
-        length-set (c .before .before .before .before .loop .keys) v (c .before .narrow .result) ∙ c .before .before .before .before .loop .inv .1 .0,
-        (
-          omega (arith, c .u16-at .ensures .1, c .before .before .before .before .loop .inv .1 .1 .0),
-          (
-            rw offset-next (rw (← f) (rw (← e) refl)),
-            entry-more 0 (key-number m (tableOf t)) (c .before .before .before .before .loop .keys) v (c .before .narrow .result) (omega (arith, c .before .before .before .before .loop .inv .1 .0)) (c .before .narrow .ensures ∙ c .before .before .key-at .ensures .0) (c .before .before .before .before .loop .inv .1 .1 .1 .1),
-          ),
-        ),
-      ),
-    )
+    let t = c .before .before .before .before .before .before .before .before .before .args .t .now in
+    let m = c .before .before .before .before .before .before .before .before .before .args .mode in
+    let l = c .before .before .before .before .loop in
+    (omega arith, length-set (l .keys) (l .v) (c .narrow .result) ∙ l .inv .1, filled-more 512 (key-number m (tableOf t)) (λ k. k) (l .keys) (l .v) (c .narrow .result) (omega (arith, l .inv .1, c .before .before .before .before .before .few-values .ensures)) (c .narrow .ensures ∙ c .before .key-at .ensures .0) (l .inv .2))
 
 returns : tie.Need-returns Inv-loop μ-loop
 returns c =
-    λ k h. c .before .loop .inv .1 .1 .1 .1 k (omega arith)
+    let t = c .before .before .before .before .before .before .args .t .now in
+    let m = c .before .before .before .before .before .before .args .mode in
+    let l = c .before .loop in
+    let few = c .before .before .few-values .ensures in
+    λ k h. filled-all 512 (valueCount t) (key-number m (tableOf t)) (λ k. k) (l .keys) (l .v) (omega (arith, few)) (omega (arith, few)) (l .inv .2) k h ∙ key-past-own t m k
 
 pub key-numbers-spec : {M : Type 1} → statement M
 key-numbers-spec =
@@ -96,18 +75,14 @@ key-numbers-spec =
     (tie.spec
     Inv-loop
     μ-loop
-    node-count-requires
-    mul-at
-    add-at
+    own-numbers-requires
+    starts-requires
+    few-values-requires
     loop-holds
     key-at-requires
     narrow-requires
     mul-keys
     array-write-keys
-    add-at-2
-    add-u16-at
-    u16-at-requires
-    add-at-3
     add-v
     loop-less
     loop-again

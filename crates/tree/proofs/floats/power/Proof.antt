@@ -6,8 +6,8 @@ use mathlib.Core.Path.{_≡_}
 use Rattle.tree.specs.Table.{at}
 use native.Mathlib.Nat.{pow-suc, pow-le-pow-right}
 use lib.Dec.{lit<}
-use Rattle.tree.proofs.keys.power.Statement.{statement}
-use Rattle.tree.proofs.keys.power.Tie as tie
+use Rattle.tree.proofs.floats.power.Statement.{statement}
+use Rattle.tree.proofs.floats.power.Tie as tie
 
 abbrev Inv-loop : tie.InvT-loop
 Inv-loop s p₀ i₀ p i = (i ≤ s) × (p ≡ 2 ^ i)

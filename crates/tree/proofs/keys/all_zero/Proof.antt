@@ -1,6 +1,6 @@
--- The invariant: a is what the bytes before i say, and no more than x.
+-- The invariant: the bytes before i are zero.
 use borrow.Author.Needs.{needs}
-use borrow.Author.Tests.{ne-eqb}
+use borrow.Author.Tests.{eq-eqb, ne-eqb}
 use Prim.Native.Nat.{ℕ, _+_, _*_, _-_, _≤_}
 use native.Mathlib.Omega.{arith}
 use mathlib.Core.Path.{_≡_, sym, ap, _∙_}
@@ -8,23 +8,20 @@ use lib.Dec.{eqb}
 use Rattle.tree.specs.Bytes.{bytesFrom}
 use Rattle.tree.specs.Values.{magnitude, onward}
 use Rattle.tree.proofs.TableLaws.{onward-grows, onward-next, onward-end}
-use Rattle.tree.proofs.keys.magnitude_is.Statement.{statement}
-use Rattle.tree.proofs.keys.magnitude_is.Tie as tie
+use Rattle.tree.proofs.keys.all_zero.Statement.{statement}
+use Rattle.tree.proofs.keys.all_zero.Tie as tie
 
 abbrev Inv-loop : tie.InvT-loop
-Inv-loop t k o x a₀ i₀ a i = (i ≤ k) × ((a ≤ x) × (onward a (bytesFrom (k - i) t (o + i)) ≡ magnitude (bytesFrom k t o)))
+Inv-loop t k o i₀ i = (i ≤ k) × (magnitude (bytesFrom (k - i) t (o + i)) ≡ magnitude (bytesFrom k t o))
 
 abbrev μ-loop : tie.MeasureT-loop
-μ-loop t k o x a₀ i₀ a i = k - i
+μ-loop t k o i₀ i = k - i
 
 loop-holds : tie.Need-loop-holds Inv-loop μ-loop
 loop-holds c =
     let k = c .before .args .k in
     let o = c .before .args .o in
-    let p : k - 0 ≡ k = omega arith in let q : o + 0 ≡ o = omega arith in (search needs, (search needs, rw (p, q)))
-
-mul-a : tie.Need-mul-a Inv-loop μ-loop
-mul-a c = search needs
+    let p : k - 0 ≡ k = omega arith in let q : o + 0 ≡ o = omega arith in (search needs, rw (p, q))
 
 add-byte-at : tie.Need-add-byte-at Inv-loop μ-loop
 add-byte-at c = search needs
@@ -32,20 +29,15 @@ add-byte-at c = search needs
 byte-at-requires : tie.Need-byte-at-requires Inv-loop μ-loop
 byte-at-requires c κs = search needs
 
-add-a : tie.Need-add-a Inv-loop μ-loop
-add-a c = search needs
-
 returns : tie.Need-returns Inv-loop μ-loop
 returns c =
     let t = c .before .before .before .before .before .args .t .now in
     let k = c .before .before .before .before .before .args .k in
     let o = c .before .before .before .before .before .args .o in
-    let x = c .before .before .before .before .before .args .x in
     let i = c .before .before .before .loop .i in
-    let a = c .before .before .before .loop .a in
-    let e : onward (a * 256 + c .before .byte-at .result) (bytesFrom (k - (i + 1)) t (o + (i + 1))) ≡ magnitude (bytesFrom k t o) = rw (c .before .byte-at .ensures .0) (onward-next t k o i a (omega arith) ∙ c .before .before .before .loop .inv .1 .1) in
-    let g = onward-grows (bytesFrom (k - (i + 1)) t (o + (i + 1))) (a * 256 + c .before .byte-at .result) in
-    rw (ne-eqb (magnitude (bytesFrom k t o)) x (λ q. omega (arith, (c .if1 .taken))))
+    let e = onward-next t k o i 0 (omega arith) ∙ c .before .before .before .loop .inv .1 in
+    let g = onward-grows (bytesFrom (k - (i + 1)) t (o + (i + 1))) (0 * 256 + c .before .byte-at .result) in
+    rw (ne-eqb (magnitude (bytesFrom k t o)) 0 (λ q. c .if1 .taken (omega (arith, g, rw (← c .before .byte-at .ensures .0) at e))))
 
 add-i : tie.Need-add-i Inv-loop μ-loop
 add-i c = search needs
@@ -59,31 +51,26 @@ loop-again c =
     let k = c .before .before .before .before .before .args .k in
     let o = c .before .before .before .before .before .args .o in
     let i = c .before .before .before .loop .i in
-    let a = c .before .before .before .loop .a in
-    let e : onward (a * 256 + c .before .byte-at .result) (bytesFrom (k - (i + 1)) t (o + (i + 1))) ≡ magnitude (bytesFrom k t o) = rw (c .before .byte-at .ensures .0) (onward-next t k o i a (omega arith) ∙ c .before .before .before .loop .inv .1 .1) in
-    (search needs, (search needs, e))
+    let e = onward-next t k o i 0 (omega arith) ∙ c .before .before .before .loop .inv .1 in
+    (search needs, rw (sym (c .before .byte-at .ensures .0) ∙ c .if1 .left) at e)
 
 returns-2 : tie.Need-returns-2 Inv-loop μ-loop
 returns-2 c =
     let t = c .before .before .before .args .t .now in
     let k = c .before .before .before .args .k in
     let o = c .before .before .before .args .o in
-    let x = c .before .before .before .args .x in
     let i = c .before .loop .i in
-    let a = c .before .loop .a in
-    let e = sym (onward-end t k o i a (omega arith)) ∙ c .before .loop .inv .1 .1 in ap (λ (z : ℕ). eqb z x) e
+    sym (eq-eqb (magnitude (bytesFrom k t o)) 0 (sym (c .before .loop .inv .1) ∙ onward-end t k o i 0 (omega arith)))
 
-pub magnitude-is-spec : {M : Type 1} → statement M
-magnitude-is-spec =
+pub all-zero-spec : {M : Type 1} → statement M
+all-zero-spec =
     tie.close
     (tie.spec
     Inv-loop
     μ-loop
     loop-holds
-    mul-a
     add-byte-at
     byte-at-requires
-    add-a
     returns
     add-i
     loop-less
