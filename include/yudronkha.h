@@ -29,13 +29,14 @@
 extern "C" {
 #endif
 
-/* Version 3.0.0 of this header, as major * 10000 + minor * 100 + patch. Major goes up where the layout of a call, a record or a
+/* Version 3.0.1 of this header, as major * 10000 + minor * 100 + patch. Major goes up where the layout of a call, a record or a
  * report changes, or a number gets another meaning, so that a program has to be changed; minor where a call, a code or a refusal
  * is added or a size below grows, so that it has to be compiled anew at most; patch with any other change.
+ * From 3.0.0: with strict keys whole floats of 2^53 and more are their integers, too. No program has to be changed.
  * From 2.0.0: a record has ten words, the first eight as they were. A program that steps through the answer room and sizes it by
  * YUDRONKHA_RECORD_WORDS is compiled anew; one that has an 8 there is changed (81,920 words were room for 10,240 records). No
  * call's parameters, no other number and no report changed. */
-#define YUDRONKHA_VERSION 30000
+#define YUDRONKHA_VERSION 30001
 
 /* Sizes, in elements of each room. */
 #define YUDRONKHA_TREE_BYTES_MOST 149515 /* no valid tree is longer; a longer one gets its refusal like any other bytes */
@@ -167,8 +168,8 @@ size_t yudronkha_short_name(size_t code, uint8_t *name, size_t name_len);
  * (1, 2, 4 and 8 bytes), and has that many elements behind it, in all at most PTRDIFF_MAX bytes; the rooms overlap neither
  * each other nor the tree, and no other thread writes to any of them during the call; YUDRONKHA_STACK_BYTES of stack are free.
  *
- * yudronkha_lint has ordinary keys, the rule of the Rust; yudronkha_lint_strict strict keys, in which a whole float below 2^53 is
- * the same key as the integer of that value. Only in records of code 16 can their lists differ. */
+ * yudronkha_lint has ordinary keys, the rule of the Rust; yudronkha_lint_strict strict keys, in which every finite whole float is
+ * the same key as its integer, however large, and an infinity only as itself. Only in records of code 16 can their lists differ. */
 size_t yudronkha_lint(const uint8_t *tree, size_t tree_len, uint16_t *work, size_t work_len, uint32_t *answer,
                       size_t answer_len, size_t *report, size_t report_len);
 
