@@ -50,6 +50,13 @@ def values_of(tree):
     return out
 
 
+def shown_float(number):
+    """A float; where an integer of a tree can equal it, with every digit."""
+    if number == float("inf"):
+        return "infinity"
+    return f"{number:.1f}" if number.is_integer() and number < 2.0**512 else repr(number)
+
+
 def shown(value):
     """A value of the table, as a script has it."""
     kind, data = value
@@ -58,7 +65,7 @@ def shown(value):
     if kind == INTEGER:
         return str(int.from_bytes(data, "big"))
     if kind > INTEGER:
-        return repr(struct.unpack("<d", data)[0])
+        return shown_float(struct.unpack("<d", data)[0])
     if kind == STRING:
         data = data.replace(b"\\", b"\\\\").replace(b'"', b'\\"')
     text = printable(data.decode("utf-8", "backslashreplace"))

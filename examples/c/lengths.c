@@ -7,7 +7,7 @@
 
 enum { PATTERN = 0x5a, BEHIND = 4, ANSWER = 3 * YUDRONKHA_RECORD_WORDS, OUTPUT = YUDRONKHA_LOG_BYTES(2) };
 
-/* One statement, a dict with the keys 10000000000 and 1e10: a record of code 13, with strict keys one of code 16 too. */
+/* One statement, a dict with the keys 9007199254740992 and 9007199254740992.0: a record of code 13, with strict keys one of code 16 too. */
 static const uint8_t tree[] = {
     'S', 'L', 'T', 1, 0, 6, 0, 2, 0, 255, 255,
     5, 0, 6, 0, 0, 0, 0, 0, 9, 0, 0, 0, 255, 255, 0, 0,
@@ -16,8 +16,8 @@ static const uint8_t tree[] = {
     21, 4, 1, 0, 3, 0, 0, 0, 4, 0, 0, 0, 0, 0, 0, 0,
     21, 8, 1, 0, 5, 0, 0, 0, 6, 0, 0, 0, 1, 0, 0, 0,
     21, 4, 1, 0, 7, 0, 0, 0, 8, 0, 0, 0, 0, 0, 0, 0,
-    3, 5, 0, 0x02, 0x54, 0x0b, 0xe4, 0x00,
-    4, 8, 0, 0x00, 0x00, 0x00, 0x20, 0x5f, 0xa0, 0x02, 0x42,
+    3, 7, 0, 0x20, 0x00, 0x00, 0x00, 0x00, 0x00, 0x00,
+    4, 8, 0, 0x00, 0x00, 0x00, 0x00, 0x00, 0x00, 0x40, 0x43,
 };
 
 /* The log of the tree with ordinary and with strict keys, as the first call with ample rooms writes it, and its bytes. */

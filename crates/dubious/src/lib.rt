@@ -1,5 +1,6 @@
 // Dubious (003), after dubious.rs: 16 duplicate key, then 17 identifier as statement.
-// Cost: linear in the nodes, and quadratic in the keys of one dict. Stack: 1 KiB for the numbers of the keys.
+// Cost: linear in the nodes, and quadratic in the keys of one dict. Stack: 5 KiB while the numbers of the keys are
+// found, 1 KiB of it for as long as they are needed.
 ghost use mathlib.Core.Path.{_≡_};
 ghost use mathlib.Core.List.{[]};
 ghost use Prim.Native.Nat.{_+_, _≤_, _<_};

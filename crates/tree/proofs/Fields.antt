@@ -1,4 +1,4 @@
--- How large the fields of a node are in a list of bytes. Assumes nothing.
+-- How large the fields of a node are in a list of bytes, and how far on a value can start. Assumes nothing.
 use Prim.Native.Nat.{ℕ, zero, suc, _+_, _*_, _≤_, _<_}
 use native.Mathlib.Omega.{arith}
 use mathlib.Core.Path.{_≡_}

@@ -1,16 +1,15 @@
 -- 02, §2: integers and floats as strict keys, by exact value. Assumes nothing.
-use Prim.Native.Nat.{ℕ, _+_, _*_, _^_, _≤_, _<_}
+use Prim.Native.Nat.{ℕ, _*_, _^_, _≤_, _<_}
 use native.Mathlib.Omega.{arith}
 use mathlib.Core.Path.{_≡_, refl, sym, ap, ap₂, subst, _∙_}
 use mathlib.Core.List.{List}
 use mathlib.Core.Logic.{_↔_}
-use mathlib.Core.Bool.{Bool, false}
-use mathlib.Core.Option.{some, Option·none-ne-some, Option·some-injective}
-use lib.Dec.{T, leb, eqb→eq, leb→le}
-use borrow.Author.Tests.{eq-eqb}
+use mathlib.Core.Bool.{false}
+use mathlib.Core.Option.{Option·none-ne-some, Option·some-injective}
+use lib.Dec.{T, leb, leb→le}
 use lib.ListN.{length, getD}
-use Rattle.tree.specs.Bytes.{u16At, nodeCount, valueCount}
-use Rattle.tree.specs.Values.{Value, sense, magnitude, little, no-zero-first, form-as, formed, offset}
+use Rattle.tree.specs.Bytes.{bytesFrom, valueCount}
+use Rattle.tree.specs.Values.{Value, magnitude, little}
 use Rattle.tree.specs.Keys.{grains, finite, whole, like, alike, same-key, reason}
 use Rattle.tree.specs.Judge.{judged}
 use Rattle.tree.specs.Table.{tableOf, at}
@@ -20,25 +19,23 @@ use Rattle.tree.specs.declared.Likeness.{Likeness}
 use Rattle.tree.specs.declared.Likeness.the-variants.{Different, SameForm, SameNumber}
 use Rattle.tree.specs.declared.Mode.{Mode}
 use Rattle.tree.specs.declared.Mode.the-variants.{Strict}
-use Rattle.tree.specs.declared.floats.Float.{Float}
 use Rattle.tree.specs.declared.floats.Float.the-variants.{Whole, Other}
-use Rattle.tree.specs.code.Numbers.{level, side-of, valued, meant, KeyNumbers, like-by}
-use Rattle.tree.proofs.KeyLaws.{all-bytes, and-left, and-right, value-path, Same, by-form, by-number, same-means, whole-grains, counted-some, grains-whole, integer, floating, mixed-keys, too-large}
+use Rattle.tree.specs.declared.keys.Side.the-variants.{Equal}
+use Rattle.tree.specs.code.Numbers.{valued, KeyNumbers, like-by}
+use Rattle.tree.proofs.KeyLaws.{Is-number, value-path, Same, by-form, by-number, same-means, whole-grains, counted-some, grains-whole, integer, floating, mixed-keys, too-large}
 use Rattle.tree.proofs.KeyReasons.{said-form}
-use Rattle.tree.proofs.KeyNumbers.{level-integer}
+use Rattle.tree.proofs.Magnitudes.{side-equal, equal-side}
+use Rattle.tree.proofs.KeySearch.{integer-form}
 use Rattle.tree.proofs.KeyTable.{like-numbers}
-use Rattle.tree.proofs.TableLaws.{at-table}
-use Rattle.tree.proofs.ValidTable.{value-formed, bytes-from}
-
--- the float of these 64 bits is a number, and that number is n
-abbrev pub Is-number : ℕ → ℕ → Type 0
-Is-number b n = T (finite b) × (grains b ≡ n * 2 ^ 1074)
+use Rattle.tree.proofs.ValidTable.{value-formed, value-bytes}
+use Rattle.tree.proofs.floats.float_of.Reads as of-float
+use Rattle.tree.proofs.keys.bytes_side.Reads as of-bytes
 
 -- "Every finite whole float equals its integer, however large"
 pub strict-keys : (xs ys : List ℕ) → T (same-key Strict (integer xs) (floating ys)) ↔ Is-number (little ys) (magnitude xs)
 strict-keys xs ys =
     let e = mixed-keys Strict xs ys in
-    (λ t. (e .0 t .not-infinite, e .0 t .exactly), λ p. e .1 (record { not-infinite = p .0; exactly = p .1; counting = tt }))
+    (λ t. e .0 t .0, λ p. e .1 (p, tt))
 
 -- "an infinity equals only itself", in both modes
 pub infinity-alone : (m : Mode) (ys : List ℕ) (w : Value) → finite (little ys) ≡ false → T (same-key m (floating ys) w) → floating ys ≡ w
@@ -48,21 +45,21 @@ infinity-alone m ys w e t = go (same-means m (floating ys) w t)
     go (by-form p) = p
     go (by-number n p q) = absurd (subst T e (whole-grains (little ys) n (counted-some m (whole (little ys)) n p) .0))
 
--- "Show it once over the exponent": what the code makes of a float's 64 bits, against the bytes of an integer
-abbrev pub agrees : Float → List ℕ → Bool
-agrees (Whole w) xs = level (side-of (valued w) (magnitude xs))
-agrees Other xs = false
-
-pub decides : (b : ℕ) (f : Float) → meant f ≡ whole b → (xs : List ℕ) → T (agrees f xs) ↔ Is-number b (magnitude xs)
-decides b (Whole w) e xs =
-    let is = level-integer (valued w) (integer xs) in (
-      λ t. let k : magnitude xs ≡ valued w = eqb→eq (magnitude xs) (valued w) (subst T is t) in
-          let g = whole-grains b (valued w) (sym e) in
-          (g .0, g .1 ∙ ap (λ (n : ℕ). n * 2 ^ 1074) (sym k)),
-      λ p. let q : some (valued w) ≡ some (magnitude xs) = e ∙ grains-whole b (magnitude xs) (p .0) (p .1) in
-          subst T (sym is) (subst T (sym (eq-eqb (magnitude xs) (valued w) (sym (Option·some-injective (valued w) (magnitude xs) q)))) tt),
+-- "Show it once over the exponent": what bytes_side answers of k bytes of t from o on and of what float_of made of 64 bits, by their contracts as
+-- the checker reads them (Post: b has t, k, o and that, a the bits; r is the answer). Equal exactly if the float is the number of those bytes.
+pub decides : (κs : _) (b : _) (r : _) (s : _) → of-bytes.Post κs b r s → (κs' : _) (a : _) (s' : _) → of-float.Post κs' a (Whole (b .1 .1 .1 .0)) s'
+    → (r ≡ Equal) ↔ Is-number (a .0) (magnitude (bytesFrom (b .1 .0) (b .0 .now) (b .1 .1 .0)))
+decides κs b r s e κs' a s' f =
+    let n = valued (b .1 .1 .1 .0) in
+    let k = magnitude (bytesFrom (b .1 .0) (b .0 .now) (b .1 .1 .0)) in
+    let g = whole-grains (a .0) n (sym (f .0)) in (
+      λ q. let z : k ≡ n = equal-side n k (sym e ∙ q) in (g .0, g .1 ∙ ap (λ (x : ℕ). x * 2 ^ 1074) (sym z)),
+      λ p. e ∙ side-equal n k (sym (Option·some-injective n k (f .0 ∙ grains-whole (a .0) k (p .0) (p .1)))),
     )
-decides b Other e xs = (λ t. absurd t, λ p. absurd (Option·none-ne-some (magnitude xs) (e ∙ grains-whole b (magnitude xs) (p .0) (p .1))))
+
+-- and where float_of answers Other, it is no whole number
+pub other-none : (κs : _) (a : _) (s : _) → of-float.Post κs a Other s → (n : ℕ) → Is-number (a .0) n → ⊥
+other-none κs a s f n p = Option·none-ne-some n (f .0 ∙ grains-whole (a .0) n (p .0) (p .1))
 
 -- ---- of a file that is judged valid: value a an integer, value b a float
 
@@ -110,23 +107,17 @@ module _ (t : List ℕ) (f : Facts) (valid : judged t ≡ Valid f) (bytes : (k :
       let e = like-numbers t f valid bytes Strict ns table a b few-a few-b in
       (λ q. exact-keys .0 (sym e ∙ q), λ p. e ∙ exact-keys .1 p)
 
-  -- "a larger float equals no integer in the file": 64 bytes of integer hold less than 2^512
   short : length (left .bytes) ≤ 64
-  unfolding left formed
-  short = leb→le (length (left .bytes)) 64 (and-left (leb (length (left .bytes)) 64) (no-zero-first (left .bytes))
-      (subst (λ (x : ℕ). T (form-as (sense x) (left .bytes))) kind-a
-      (and-right (leb (length (left .bytes)) 255) (form-as (sense (left .kind)) (left .bytes)) (value-formed t f valid a few-a))))
-
-  in-bytes : T (all-bytes (left .bytes))
   unfolding left
-  in-bytes = rw (at-table t a few-a) (bytes-from t bytes (u16At t (offset t (nodeCount t) a + 1)) (offset t (nodeCount t) a + 3))
+  short = leb→le (length (left .bytes)) 64 (integer-form left kind-a (value-formed t f valid a few-a) .0)
 
+  -- "a larger float equals no integer in the file": 64 bytes of integer hold less than 2^512
   pub larger-none : (m : Mode) → 2 ^ 512 * 2 ^ 1074 ≤ grains (little (at (tableOf t) b .bytes)) → like m (at (tableOf t) a) (at (tableOf t) b) ≡ Different
   unfolding left right
   larger-none m h = go (like m left right) refl
     where
       never : T (same-key m left right) → ⊥
-      never u = too-large m (left .bytes) (right .bytes) in-bytes short h (subst T (as-keys m) u)
+      never u = too-large m (left .bytes) (right .bytes) (value-bytes t bytes a few-a) short h (subst T (as-keys m) u)
 
       go : (l : Likeness) → like m left right ≡ l → l ≡ Different
       go Different e = refl

@@ -127,7 +127,7 @@ onward-longer zero xs ys a p q h l e = let r : a ≡ 0 = onward-same xs ys a 0 p
 onward-longer (suc d) [] ys a p q h l e = omega arith
 onward-longer (suc d) (x ∷ xs) ys a p q h l e = onward-longer d xs ys (a * 256 + x) (and-right (ltb x 256) (all-bytes xs) p) q (omega arith) (omega arith) e
 
-not-zero : (x : ℕ) → T (not (eqb x 0)) → 1 ≤ x
+pub not-zero : (x : ℕ) → T (not (eqb x 0)) → 1 ≤ x
 not-zero zero t = absurd t
 not-zero (suc x) t = omega arith
 
@@ -198,11 +198,15 @@ exact g d n e f = sym (div-add-mod' g d) ∙ (ap (λ (x : ℕ). g / d * d + x) e
     add-zero' : (x : ℕ) → x + 0 ≡ x
     add-zero' x = omega arith
 
+-- the float of these 64 bits is a number, and that number is n
+abbrev pub Is-number : ℕ → ℕ → Type 0
+Is-number b n = T (finite b) × (grains b ≡ n * 2 ^ 1074)
+
 -- a float is the whole number n exactly if it is finite and has n times 2^1074 grains
-pub whole-grains : (b n : ℕ) → whole b ≡ some n → T (finite b) × (grains b ≡ n * 2 ^ 1074)
+pub whole-grains : (b n : ℕ) → whole b ≡ some n → Is-number b n
 whole-grains b n e = go (finite b && eqb (grains b % 2 ^ 1074) 0) refl e
   where
-    go : (c : Bool) → (finite b && eqb (grains b % 2 ^ 1074) 0) ≡ c → only-if c (grains b / 2 ^ 1074) ≡ some n → T (finite b) × (grains b ≡ n * 2 ^ 1074)
+    go : (c : Bool) → (finite b && eqb (grains b % 2 ^ 1074) 0) ≡ c → only-if c (grains b / 2 ^ 1074) ≡ some n → Is-number b n
     go false p q = absurd (Option·none-ne-some n q)
     go true p q =
         let t : T (finite b && eqb (grains b % 2 ^ 1074) 0) = subst T (sym p) tt in (
@@ -252,34 +256,34 @@ one-form m v w f g bv bw k t = go (same-means m v w t)
 
 pub data Lex (x y : ℕ) (p : Bool) : Type 0 where
   less : x < y → Lex x y p
-  level : x ≡ y → T p → Lex x y p
+  tied : x ≡ y → T p → Lex x y p
 
 pub lex : (x y : ℕ) (p : Bool) → T (ltb x y || (eqb x y && p)) → Lex x y p
 lex x y p t = go (or-cases (ltb x y) (eqb x y && p) t)
   where
     go : T (ltb x y) ⊎ T (eqb x y && p) → Lex x y p
     go (inl u) = less (ltb→lt x y u)
-    go (inr u) = level (eqb→eq x y (and-left (eqb x y) p u)) (and-right (eqb x y) p u)
+    go (inr u) = tied (eqb→eq x y (and-left (eqb x y) p u)) (and-right (eqb x y) p u)
 
 unlex : (x y : ℕ) (p : Bool) → Lex x y p → T (ltb x y || (eqb x y && p))
 unlex x y p (less h) = or-left (ltb x y) (eqb x y && p) (lt→ltb x y h)
-unlex x y p (level e t) = or-right (ltb x y) (eqb x y && p) (both (eqb x y) p (subst (λ (z : ℕ). T (eqb x z)) e (eqb-refl x)) t)
+unlex x y p (tied e t) = or-right (ltb x y) (eqb x y && p) (both (eqb x y) p (subst (λ (z : ℕ). T (eqb x z)) e (eqb-refl x)) t)
 
 lex-trans : (x y z : ℕ) (p q r : Bool) → (T p → T q → T r) → T (ltb x y || (eqb x y && p)) → T (ltb y z || (eqb y z && q)) → T (ltb x z || (eqb x z && r))
 lex-trans x y z p q r f s t = unlex x z r (go (lex x y p s) (lex y z q t))
   where
     go : Lex x y p → Lex y z q → Lex x z r
     go (less h) (less k) = less (omega arith)
-    go (less h) (level e u) = less (omega arith)
-    go (level d s) (less k) = less (omega arith)
-    go (level d s) (level e u) = level (d ∙ e) (f s u)
+    go (less h) (tied e u) = less (omega arith)
+    go (tied d s) (less k) = less (omega arith)
+    go (tied d s) (tied e u) = tied (d ∙ e) (f s u)
 
 lex-self : (x : ℕ) (p : Bool) → T (ltb x x || (eqb x x && p)) → T p
 lex-self x p t = go (lex x x p t)
   where
     go : Lex x x p → T p
     go (less h) = absurd (omega arith)
-    go (level e u) = u
+    go (tied e u) = u
 
 bytes-trans : (xs ys zs : List ℕ) → T (bytes-before xs ys) → T (bytes-before ys zs) → T (bytes-before xs zs)
 bytes-trans [] [] zs s t = absurd s
@@ -361,26 +365,21 @@ integer bs = record { kind = 3; bytes = bs }
 abbrev pub floating : List ℕ → Value
 floating bs = record { kind = 4; bytes = bs }
 
-pub record Equal-number (m : Mode) (n b : ℕ) : Type 0 where
-  pub not-infinite : T (finite b)
-  pub exactly : grains b ≡ n * 2 ^ 1074
-  pub counting : T (counts m n)
-
-pub mixed-keys : (m : Mode) (xs ys : List ℕ) → T (same-key m (integer xs) (floating ys)) ↔ Equal-number m (magnitude xs) (little ys)
+pub mixed-keys : (m : Mode) (xs ys : List ℕ) → T (same-key m (integer xs) (floating ys)) ↔ (Is-number (little ys) (magnitude xs) × T (counts m (magnitude xs)))
 mixed-keys m xs ys = (λ t. to (same-means m (integer xs) (floating ys) t), λ r. means-same m (integer xs) (floating ys) (from r))
   where
-    to : Same m (integer xs) (floating ys) → Equal-number m (magnitude xs) (little ys)
+    to : Same m (integer xs) (floating ys) → Is-number (little ys) (magnitude xs) × T (counts m (magnitude xs))
     to (by-form e) = absurd (let p : 3 ≡ 4 = ap (λ (v : Value). v .kind) e in omega arith)
     to (by-number n d e) =
         let p : n ≡ magnitude xs = sym (Option·some-injective (magnitude xs) n d) in
         let w = whole-grains (little ys) n (counted-some m (whole (little ys)) n e) in
-        record { not-infinite = w .0; exactly = w .1 ∙ ap (λ (x : ℕ). x * 2 ^ 1074) p; counting = subst (λ (x : ℕ). T (counts m x)) p (counted-counts m (whole (little ys)) n e) }
+        ((w .0, w .1 ∙ ap (λ (x : ℕ). x * 2 ^ 1074) p), subst (λ (x : ℕ). T (counts m x)) p (counted-counts m (whole (little ys)) n e))
 
-    from : Equal-number m (magnitude xs) (little ys) → Same m (integer xs) (floating ys)
-    from r = by-number (magnitude xs) refl (counted-of m (whole (little ys)) (magnitude xs) (grains-whole (little ys) (magnitude xs) (r .not-infinite) (r .exactly)) (r .counting))
+    from : Is-number (little ys) (magnitude xs) × T (counts m (magnitude xs)) → Same m (integer xs) (floating ys)
+    from r = by-number (magnitude xs) refl (counted-of m (whole (little ys)) (magnitude xs) (grains-whole (little ys) (magnitude xs) (r .0 .0) (r .0 .1)) (r .1))
 
 -- an integer of the file is below 256 ^ 64, so a float from there on equals none
-pub onward-below : (xs : List ℕ) (a : ℕ) → T (all-bytes xs) → onward a xs < suc a * 256 ^ length xs
+onward-below : (xs : List ℕ) (a : ℕ) → T (all-bytes xs) → onward a xs < suc a * 256 ^ length xs
 onward-below [] a p = let q : suc a * 1 ≡ suc a = mul-one (suc a) in omega arith
 onward-below (x ∷ xs) a p =
     let hx : x < 256 = ltb→lt x 256 (and-left (ltb x 256) (all-bytes xs) p) in
@@ -389,12 +388,15 @@ onward-below (x ∷ xs) a p =
     let w : (suc a * 256) * 256 ^ length xs ≡ suc a * 256 ^ suc (length xs) = mul-assoc (suc a) 256 (256 ^ length xs) ∙ ap (λ (z : ℕ). suc a * z) (sym (pow-succ' 256 (length xs))) in
     omega arith
 
+pub magnitude-less : (xs : List ℕ) → T (all-bytes xs) → magnitude xs < 256 ^ length xs
+magnitude-less xs p = subst (λ (z : ℕ). magnitude xs < z) (one-mul (256 ^ length xs)) (onward-below xs 0 p)
+
 pub magnitude-below : (xs : List ℕ) → T (all-bytes xs) → length xs ≤ 64 → magnitude xs < 256 ^ 64
-magnitude-below xs p h = lt-of-lt-of-le (subst (λ (z : ℕ). magnitude xs < z) (one-mul (256 ^ length xs)) (onward-below xs 0 p)) (pow-le-pow-right {n = 256} (lit< tt) h)
+magnitude-below xs p h = lt-of-lt-of-le (magnitude-less xs p) (pow-le-pow-right {n = 256} (lit< tt) h)
 
 pub too-large : (m : Mode) (xs ys : List ℕ) → T (all-bytes xs) → length xs ≤ 64 → 256 ^ 64 * 2 ^ 1074 ≤ grains (little ys) → T (same-key m (integer xs) (floating ys)) → ⊥
 too-large m xs ys p h g t = lt-irrefl (grains (little ys)) (lt-of-lt-of-le
-    (subst (λ (z : ℕ). z < 256 ^ 64 * 2 ^ 1074) (sym (mixed-keys m xs ys .0 t .exactly)) (mul-lt-mul-of-pos-right (magnitude-below xs p h) (lit< tt))) g)
+    (subst (λ (z : ℕ). z < 256 ^ 64 * 2 ^ 1074) (sym (mixed-keys m xs ys .0 t .0 .1)) (mul-lt-mul-of-pos-right (magnitude-below xs p h) (lit< tt))) g)
 
 -- over the exponent: up to the field 1075 a float is whole exactly if the digits below the point are 0; from there on always
 

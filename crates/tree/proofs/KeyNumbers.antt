@@ -2,7 +2,7 @@
 use Prim.Native.Nat.{ℕ, _+_, _≤_, _<_}
 use native.Mathlib.Omega.{arith}
 use native.Mathlib.Decide.{decLt, ℕ-discrete}
-use mathlib.Core.Path.{_≡_, refl, sym, ap, subst, _∙_}
+use mathlib.Core.Path.{_≡_, sym, ap, subst, _∙_}
 use mathlib.Core.List.{List}
 use mathlib.Core.Bool.{Bool, true, false, _&&_}
 use mathlib.Core.Option.{Option, none, some}
@@ -14,6 +14,7 @@ use Rattle.tree.specs.code.Offsets.{u64At, kindOf, lenOf}
 use Rattle.tree.specs.Values.{Value, magnitude, valueFrom, offset}
 use Rattle.tree.specs.declared.Mode.{Mode}
 use Rattle.tree.specs.declared.Likeness.the-variants.{Different, SameForm, SameNumber}
+use Rattle.tree.specs.declared.keys.Side.{Side}
 use Rattle.tree.specs.declared.keys.Side.the-variants.{Below, Above}
 use Rattle.tree.specs.Keys.{whole, only-if, counts, counted}
 use Rattle.tree.specs.Table.{tableOf, at}
@@ -67,11 +68,12 @@ module _ (t table : List ℕ) (starts : Starts t table) (u : ℕ) (low : u < 512
   start-is : valueFrom t (getD table u 0) ≡ at (tableOf t) u
   start-is = ap (valueFrom t) (start-at t table starts u low few) ∙ sym (at-table t u few)
 
-  pub short-here : (n : ℕ) → below (placed n (valueFrom t (getD table u 0))) ≡ short-of (tableOf t) n u
-  short-here n = ap (λ (v : Value). below (placed n v)) start-is
+  module _ (n : ℕ) {s : Side} (e : s ≡ placed n (valueFrom t (getD table u 0))) where
+    pub short-here : {b : Bool} → b ≡ below s → short-of (tableOf t) n u ≡ b
+    short-here q = sym (q ∙ (ap below e ∙ ap (λ (v : Value). below (placed n v)) start-is))
 
-  pub level-here : (n : ℕ) → level (placed n (valueFrom t (getD table u 0))) ≡ is-integer (tableOf t) n u
-  level-here n = ap (λ (v : Value). level (placed n v)) start-is ∙ level-integer n (at (tableOf t) u)
+    pub level-here : {b : Bool} → b ≡ level s → is-integer (tableOf t) n u ≡ b
+    level-here q = sym (q ∙ (ap level e ∙ (ap (λ (v : Value). level (placed n v)) start-is ∙ level-integer n (at (tableOf t) u))))
 
 -- what stands for a float: nothing that counts, the integer where it is found, else itself
 module _ (vs : List Value) (v : ℕ) where

@@ -1,27 +1,26 @@
 -- In a valid file the search by halving finds the integer that a float counts as. Assumes nothing.
-use Prim.Native.Nat.{ℕ, _+_, _≤_, _<_}
+use Prim.Native.Nat.{ℕ, _≤_, _<_}
 use native.Mathlib.Omega.{arith}
-use native.Mathlib.Decide.{decLt, ℕ-discrete}
+use native.Mathlib.Decide.{decLt}
 use mathlib.Core.Path.{_≡_, refl, sym, ap, subst, _∙_}
 use mathlib.Core.List.{List}
-use mathlib.Core.Bool.{Bool, true, false, cond, _&&_}
-use lib.Dec.{T, eqb, leb, ltb, eqb→eq, ltb→lt}
+use mathlib.Core.Bool.{Bool, true, false, _&&_}
+use lib.Dec.{T, eqb, leb, ltb, eqb→eq}
 use lib.ListN.{length, getD}
-use borrow.Author.Tests.{lt-ltb, le-ltb, eq-eqb, ne-eqb, eqb-true, ltb-true, ltb-false}
-use Rattle.tree.specs.Bytes.{u16At, nodeCount, valueCount, pick}
-use Rattle.tree.specs.Values.{Value, sense, form-as, magnitude, no-zero-first, formed, by-length, precedes, offset}
+use borrow.Author.Tests.{lt-ltb, ltb-true, ltb-false}
+use Rattle.tree.specs.Bytes.{valueCount, pick}
+use Rattle.tree.specs.Values.{Value, sense, form-as, magnitude, no-zero-first, formed, by-length, precedes}
 use Rattle.tree.specs.Judge.{judged}
 use Rattle.tree.specs.Table.{tableOf, at}
 use Rattle.tree.specs.declared.Facts.{Facts}
 use Rattle.tree.specs.declared.Judged.the-variants.{Valid}
 use Rattle.tree.specs.declared.keys.Side.the-variants.{Below, Equal, Above}
-use Rattle.tree.specs.code.Numbers.{integer-is, below, level, side-of, placed, short-of, sought}
+use Rattle.tree.specs.code.Numbers.{integer-is, below, placed, short-of, sought}
 use Rattle.tree.proofs.Search.{clash}
-use Rattle.tree.proofs.TableLaws.{at-table}
-use Rattle.tree.proofs.KeyLaws.{all-bytes, and-left, and-right, Lex, less, level as alike, lex}
+use Rattle.tree.proofs.KeyLaws.{all-bytes, and-left, and-right, Lex, less, tied, lex}
 use Rattle.tree.proofs.Halving.{Border, halved-border}
 use Rattle.tree.proofs.Magnitudes.{integers-ascend}
-use Rattle.tree.proofs.ValidTable.{value-formed, ascending, bytes-from}
+use Rattle.tree.proofs.ValidTable.{value-formed, value-bytes, ascending}
 
 -- a value that stands before the integer n, and one that doesn't
 data Short (n : ℕ) (v : Value) : Type 0 where
@@ -58,19 +57,22 @@ reached-means n v = go (ltb (v .kind) 3) refl (ltb 3 (v .kind)) refl (ltb (magni
     go false p false q false r d e =
         as-large (let x = ltb-false (v .kind) 3 p in let y = ltb-false 3 (v .kind) q in omega arith) (ltb-false _ _ r)
 
--- the order of two values, the later an integer or before the integers
-no-zero : (v : Value) → v .kind ≡ 3 → T (formed v) → T (no-zero-first (v .bytes))
+-- "at most 64 bytes", "no leading zero byte"
+pub integer-form : (v : Value) → v .kind ≡ 3 → T (formed v) → T (leb (length (v .bytes)) 64) × T (no-zero-first (v .bytes))
 unfolding formed
-no-zero v k f = and-right (leb (length (v .bytes)) 64) (no-zero-first (v .bytes))
-    (subst (λ (x : ℕ). T (form-as (sense x) (v .bytes))) k (and-right (leb (length (v .bytes)) 255) (form-as (sense (v .kind)) (v .bytes)) f))
+integer-form v k f =
+    let t : T (leb (length (v .bytes)) 64 && no-zero-first (v .bytes))
+    = subst (λ (x : ℕ). T (form-as (sense x) (v .bytes))) k (and-right (leb (length (v .bytes)) 255) (form-as (sense (v .kind)) (v .bytes)) f) in
+    (and-left (leb (length (v .bytes)) 64) (no-zero-first (v .bytes)) t, and-right (leb (length (v .bytes)) 64) (no-zero-first (v .bytes)) t)
 
+-- the order of two values, the later an integer or before the integers
 below-integer : (v w : Value) → T (all-bytes (v .bytes)) → T (formed w) → w .kind ≡ 3 → T (precedes v w) → Short (magnitude (w .bytes)) v
 unfolding precedes
 below-integer v w p f k t = go (lex (v .kind) (w .kind) (by-length (v .bytes) (w .bytes)) t)
   where
     go : Lex (v .kind) (w .kind) (by-length (v .bytes) (w .bytes)) → Short (magnitude (w .bytes)) v
     go (less h) = other-kind (omega arith)
-    go (alike e u) = smaller (e ∙ k) (integers-ascend (v .bytes) (w .bytes) p (no-zero w k f) u)
+    go (tied e u) = smaller (e ∙ k) (integers-ascend (v .bytes) (w .bytes) p (integer-form w k f .1) u)
 
 kinds-rise : (v w : Value) → T (precedes v w) → v .kind ≤ w .kind
 unfolding precedes
@@ -78,7 +80,7 @@ kinds-rise v w t = go (lex (v .kind) (w .kind) (by-length (v .bytes) (w .bytes))
   where
     go : Lex (v .kind) (w .kind) (by-length (v .bytes) (w .bytes)) → v .kind ≤ w .kind
     go (less h) = omega arith
-    go (alike e u) = omega arith
+    go (tied e u) = omega arith
 
 short-more : (n k : ℕ) (v : Value) → n ≤ k → Short n v → Short k v
 short-more n k v h (other-kind l) = other-kind l
@@ -98,13 +100,9 @@ module _ (t : List ℕ) (f : Facts) (valid : judged t ≡ Valid f) (bytes : (k :
   vs : List Value
   vs = tableOf t
 
-  fit : (i : ℕ) → i < valueCount t → T (all-bytes (at vs i .bytes))
-  unfolding vs
-  fit i l = rw (at-table t i l) (bytes-from t bytes (u16At t (offset t (nodeCount t) i + 1)) (offset t (nodeCount t) i + 3))
-
   falls : (n b : ℕ) → b < valueCount t → (i j : ℕ) → i < j → j < b → short-of vs n j ≡ true → short-of vs n i ≡ true
   unfolding vs
-  falls n b h i j l k e = means-short n (at vs i) (short-falls n (at vs i) (at vs j) (fit i (omega arith)) (value-formed t f valid j (omega arith))
+  falls n b h i j l k e = means-short n (at vs i) (short-falls n (at vs i) (at vs j) (value-bytes t bytes i (omega arith)) (value-formed t f valid j (omega arith))
       (ascending t f valid i j l (omega arith)) (short-means n (at vs j) e))
 
   -- integers stand before floats
@@ -140,6 +138,6 @@ module _ (t : List ℕ) (f : Facts) (valid : judged t ≡ Valid f) (bytes : (k :
       go : Dec (a < p) → Dec (p < a) → p ≡ a
       go (yes l) d = absurd (never-both n (at vs a) (short-means n (at vs a) (edge .holds a (omega arith) l)) (as-large kind-a (omega (arith, worth))))
       go (no l) (yes r) = absurd (never-both n (at vs p) (subst (λ (x : ℕ). Short x (at vs p)) worth
-          (below-integer (at vs p) (at vs a) (fit p (omega arith)) (value-formed t f valid a h) kind-a (ascending t f valid p a r h)))
+          (below-integer (at vs p) (at vs a) (value-bytes t bytes p (omega arith)) (value-formed t f valid a h) kind-a (ascending t f valid p a r h)))
           (reached-means n (at vs p) (edge .ends (omega (arith, early)))))
       go (no l) (no r) = omega arith

@@ -1,8 +1,8 @@
 -- In a valid file the key test is decided by value numbers and the numbers that stand for keys; two forms of one number are an integer
 -- and a float. Assumes nothing.
-use Prim.Native.Nat.{ℕ, _+_, _≤_, _<_}
+use Prim.Native.Nat.{ℕ, _≤_, _<_}
 use native.Mathlib.Omega.{arith}
-use native.Mathlib.Decide.{decLt, ℕ-discrete}
+use native.Mathlib.Decide.{ℕ-discrete}
 use mathlib.Core.Path.{_≡_, refl, sym, ap, subst, _∙_}
 use mathlib.Core.List.{List}
 use mathlib.Core.Logic.{_⊎_, inl, inr, _↔_}
@@ -11,8 +11,8 @@ use mathlib.Core.Option.{Option, none, some, Option·none-ne-some, Option·some-
 use lib.Dec.{T, eqb, leb, eqb→eq}
 use lib.ListN.{length, getD}
 use borrow.Author.Tests.{eq-eqb, ne-eqb, eqb-true}
-use Rattle.tree.specs.Bytes.{u16At, nodeCount, valueCount, pick}
-use Rattle.tree.specs.Values.{Value, sense, a-name, a-text, an-integer, a-float, unknown, magnitude, little, form-as, formed, offset}
+use Rattle.tree.specs.Bytes.{valueCount, pick}
+use Rattle.tree.specs.Values.{Value, sense, a-name, a-text, an-integer, a-float, unknown, magnitude, little, form-as, formed}
 use Rattle.tree.specs.Judge.{judged}
 use Rattle.tree.specs.declared.Mode.{Mode}
 use Rattle.tree.specs.declared.Facts.{Facts}
@@ -21,12 +21,11 @@ use Rattle.tree.specs.Keys.{whole, counted, number-as, number, formed-al
 use Rattle.tree.specs.Table.{tableOf, at}
 use Rattle.tree.specs.code.Numbers.{integer-is, is-integer, if-so, float-number, sought, lead, key-number, KeyNumbers, like-by}
 use Rattle.tree.proofs.Search.{clash}
-use Rattle.tree.proofs.TableLaws.{at-table}
-use Rattle.tree.proofs.KeyLaws.{formed-alike→eq, formed-alike-refl, all-bytes, and-left, and-right, both, Same, by-form, by-number, same-means, means-same, same-refl, same-sym, same-trans, one-form}
+use Rattle.tree.proofs.KeyLaws.{formed-alike→eq, formed-alike-refl, and-left, and-right, both, Same, by-form, by-number, same-means, means-same, same-refl, same-sym, same-trans, one-form}
 use Rattle.tree.proofs.KeySearch.{found}
 use Rattle.tree.proofs.KeyReasons.{said-number}
 use Rattle.tree.proofs.Whole.{sound}
-use Rattle.tree.proofs.ValidTable.{value-formed, one-number, bytes-from}
+use Rattle.tree.proofs.ValidTable.{value-formed, value-bytes, one-number}
 
 so : {b : Bool} → b ≡ true → T b
 so e = subst T (sym e) tt
@@ -84,10 +83,7 @@ module _ (t : List ℕ) (f : Facts) (valid : judged t ≡ Valid f) (bytes : (k :
   alone : (a b : ℕ) → a < valueCount t → b < valueCount t → at vs a .kind ≡ at vs b .kind → T (same-key m (at vs a) (at vs b)) → a ≡ b
   unfolding vs
   alone a b h k e s = one-number t f valid a b h k
-      (one-form m (at vs a) (at vs b) (value-formed t f valid a h) (value-formed t f valid b k) (fit a h) (fit b k) e s)
-    where
-      fit : (i : ℕ) → i < valueCount t → T (all-bytes (at vs i .bytes))
-      fit i l = rw (at-table t i l) (bytes-from t bytes (u16At t (offset t (nodeCount t) i + 1)) (offset t (nodeCount t) i + 3))
+      (one-form m (at vs a) (at vs b) (value-formed t f valid a h) (value-formed t f valid b k) (value-bytes t bytes a h) (value-bytes t bytes b k) e s)
 
   -- a float goes to the integer that it counts as, if the table has that
   data Led (v : ℕ) : Type 0 where

@@ -1,25 +1,23 @@
 -- Magnitudes of integers, byte by byte: in two parts, against a whole number, and in the order of values. Assumes nothing.
 use Prim.Native.Nat.{ℕ, zero, suc, _+_, _-_, _*_, _^_, _≤_, _<_, min}
 use native.Mathlib.Omega.{arith}
-use native.Mathlib.Nat.{zero-add, add-mul, suc-mul, mul-assoc, pow-succ', one-mul, mul-le-mul-right, pow-le-pow-right}
+use native.Mathlib.Nat.{zero-add, add-mul, suc-mul, mul-assoc, pow-succ', mul-le-mul-right, pow-le-pow-right}
 use mathlib.Core.Path.{_≡_, refl, sym, ap, subst, _∙_}
 use mathlib.Core.List.{List, [], _∷_}
 use mathlib.Core.Logic.{_⊎_, inl, inr}
-use mathlib.Core.Bool.{Bool, true, false, not}
-use lib.Dec.{T, eqb, ltb, ltb→lt, eqb→eq, lit<}
+use mathlib.Core.Bool.{Bool, true, false}
+use lib.Dec.{T, eqb, ltb, lit<}
 use lib.ListN.{length, getD}
-use borrow.Author.Tests.{lt-ltb, le-ltb, eq-eqb, ne-eqb, eqb-true, eqb-false}
+use borrow.Author.Tests.{lt-ltb, le-ltb, eq-eqb, ne-eqb, eqb-true}
 use Rattle.tree.specs.Bytes.{bytesFrom, pick}
 use Rattle.tree.specs.Values.{onward, magnitude, no-zero-first, bytes-before, by-length}
-use Rattle.tree.specs.code.Numbers.{side-of, valued, Fit}
+use Rattle.tree.specs.code.Numbers.{level, side-of, valued, Fit}
 use Rattle.tree.specs.declared.floats.Spelled.{Spelled}
 use Rattle.tree.specs.declared.keys.Side.the-variants.{Below, Equal, Above}
+use Rattle.tree.proofs.Search.{clash}
 use Rattle.tree.proofs.Link.{length-from}
 use Rattle.tree.proofs.ValidTable.{bytes-from}
-use Rattle.tree.proofs.KeyLaws.{all-bytes, and-left, and-right, onward-below, Lex, less, level, lex}
-
-pub byte-pow : (k : ℕ) → 1 ≤ 256 ^ k
-byte-pow k = pow-le-pow-right {n = 256} (lit< tt) {i = 0} {j = k} (omega arith)
+use Rattle.tree.proofs.KeyLaws.{all-bytes, not-zero, magnitude-less, and-right, Lex, less, tied, lex}
 
 -- what stands before some bytes is worth 256 for each of them
 pub onward-split : (xs : List ℕ) (a : ℕ) → onward a xs ≡ a * 256 ^ length xs + magnitude xs
@@ -30,9 +28,6 @@ onward-split (x ∷ xs) a =
     let r : (a * 256 + x) * 256 ^ length xs ≡ a * 256 * 256 ^ length xs + x * 256 ^ length xs = add-mul (a * 256) x (256 ^ length xs) in
     let s : a * 256 * 256 ^ length xs ≡ a * 256 ^ suc (length xs) = mul-assoc a 256 (256 ^ length xs) ∙ ap (λ (z : ℕ). a * z) (sym (pow-succ' 256 (length xs))) in
     omega arith
-
-pub magnitude-less : (xs : List ℕ) → T (all-bytes xs) → magnitude xs < 256 ^ length xs
-magnitude-less xs p = subst (λ (z : ℕ). magnitude xs < z) (one-mul (256 ^ length xs)) (onward-below xs 0 p)
 
 from-split : (f z : ℕ) (t : List ℕ) (o a : ℕ) → onward a (bytesFrom (f + z) t o) ≡ onward (onward a (bytesFrom f t o)) (bytesFrom z t (o + f))
 from-split zero z t o a = let q : o + 0 ≡ o = omega arith in let p : 0 + z ≡ z = omega arith in rw (p, q)
@@ -60,6 +55,14 @@ side-above n k h = rw (le-ltb k n (omega arith), ne-eqb k n (λ e. omega arith))
 
 pub side-equal : (n k : ℕ) → k ≡ n → side-of n k ≡ Equal
 side-equal n k e = rw (le-ltb k n (omega arith), eq-eqb k n e)
+
+pub equal-side : (n k : ℕ) → side-of n k ≡ Equal → k ≡ n
+equal-side n k = go (ltb k n) (eqb k n) refl
+  where
+    go : (a b : Bool) → eqb k n ≡ b → pick a Below (pick b Equal Above) ≡ Equal → k ≡ n
+    go true b q e = clash (ap level e) refl
+    go false true q e = eqb-true k n q
+    go false false q e = clash (ap level e) refl
 
 -- a is what stands before, b the rest, h the number's head and p what its zeros are worth
 module _ (h p a b : ℕ) (low : b < p) where
@@ -118,15 +121,15 @@ module _ (t : List ℕ) (bytes : (j : ℕ) → getD t j 0 < 256) (k o : ℕ) (w 
     unfolding front
     level-front h l = omega arith
 
-    pub file-equal : w .head ≤ a → a ≤ w .head → eqb (magnitude (bytesFrom (w .zeros) t (o + (k - w .zeros)))) 0 ≡ true
+    pub file-equal : w .head ≤ a → a ≤ w .head → min (magnitude (bytesFrom (w .zeros) t (o + (k - w .zeros)))) 1 ≡ 0
         → Equal ≡ side-of (valued w) (magnitude (bytesFrom k t o))
     unfolding back
-    file-equal h l z = sym (parts-equal (w .head) (256 ^ w .zeros) front back back-low (level-front h l) (eqb-true back 0 z)) ∙ in-parts long
+    file-equal h l z = sym (parts-equal (w .head) (256 ^ w .zeros) front back back-low (level-front h l) (omega arith)) ∙ in-parts long
 
-    pub file-rest : w .head ≤ a → a ≤ w .head → eqb (magnitude (bytesFrom (w .zeros) t (o + (k - w .zeros)))) 0 ≡ false
+    pub file-rest : w .head ≤ a → a ≤ w .head → (min (magnitude (bytesFrom (w .zeros) t (o + (k - w .zeros)))) 1 ≡ 0 → ⊥)
         → Above ≡ side-of (valued w) (magnitude (bytesFrom k t o))
     unfolding back
-    file-rest h l z = sym (parts-rest (w .head) (256 ^ w .zeros) front back back-low (level-front h l) (eqb-false back 0 z)) ∙ in-parts long
+    file-rest h l z = sym (parts-rest (w .head) (256 ^ w .zeros) front back back-low (level-front h l) (λ e. z (omega arith))) ∙ in-parts long
 
 -- ---- the order of values is that of magnitudes
 
@@ -150,25 +153,21 @@ bytes-less (x ∷ xs) (y ∷ ys) a p l t =
     go : T (all-bytes xs) → (T (bytes-before xs ys) → onward (a * 256 + x) xs < onward (a * 256 + x) ys) → Lex x y (bytes-before xs ys)
         → onward (a * 256 + x) xs < onward (a * 256 + y) ys
     go rest f (less h) = lead-less xs ys (a * 256 + x) (a * 256 + y) rest (omega arith) (omega arith)
-    go rest f (level e u) = subst (λ (z : ℕ). onward (a * 256 + x) xs < onward (a * 256 + z) ys) e (f u)
+    go rest f (tied e u) = subst (λ (z : ℕ). onward (a * 256 + x) xs < onward (a * 256 + z) ys) e (f u)
 
 longer-less : (xs ys : List ℕ) → T (all-bytes xs) → T (no-zero-first ys) → length xs < length ys → magnitude xs < magnitude ys
 longer-less xs [] p z l = absurd (omega arith)
 longer-less xs (y ∷ ys) p z l =
-    let h : 1 ≤ y = first y z in
+    let h : 1 ≤ y = not-zero y z in
     let a : magnitude xs < 256 ^ length xs = magnitude-less xs p in
     let b : 256 ^ length xs ≤ 256 ^ length ys = pow-le-pow-right {n = 256} (lit< tt) (omega arith) in
     let c : magnitude (y ∷ ys) ≡ y * 256 ^ length ys + magnitude ys = ap (λ (x : ℕ). onward x ys) (zero-add y) ∙ onward-split ys y in
     let d : 1 * 256 ^ length ys ≤ y * 256 ^ length ys = mul-le-mul-right (256 ^ length ys) h in
     omega arith
-  where
-    first : (x : ℕ) → T (not (eqb x 0)) → 1 ≤ x
-    first zero t = absurd t
-    first (suc x) t = omega arith
 
 pub integers-ascend : (xs ys : List ℕ) → T (all-bytes xs) → T (no-zero-first ys) → T (by-length xs ys) → magnitude xs < magnitude ys
 integers-ascend xs ys p z t = go (lex (length xs) (length ys) (bytes-before xs ys) t)
   where
     go : Lex (length xs) (length ys) (bytes-before xs ys) → magnitude xs < magnitude ys
     go (less h) = longer-less xs ys p z h
-    go (level e u) = bytes-less xs ys 0 p e u
+    go (tied e u) = bytes-less xs ys 0 p e u

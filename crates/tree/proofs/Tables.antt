@@ -1,4 +1,4 @@
--- Laws of the code's tables of parents and depths. Assumes nothing.
+-- Laws of the code's tables as they are filled. Assumes nothing.
 use Prim.Native.Nat.{ℕ, zero, suc, _+_, _≤_, _<_, min}
 use native.Mathlib.Omega.{arith}
 use native.Mathlib.Decide.{decLt}

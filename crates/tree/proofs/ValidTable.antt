@@ -8,9 +8,9 @@ use mathlib.Core.Bool.{Bool, true, false}
 use lib.Dec.{T, eqb, ltb}
 use lib.ListN.{getD}
 use borrow.Author.Tests.{lt-ltb, eq-eqb, ne-eqb}
-use Rattle.tree.specs.Bytes.{bytesFrom, nodeCount, valueCount}
+use Rattle.tree.specs.Bytes.{bytesFrom, u16At, nodeCount, valueCount}
 use Rattle.tree.specs.Search.{lowest}
-use Rattle.tree.specs.Values.{Value, formed, precedes}
+use Rattle.tree.specs.Values.{Value, formed, precedes, offset}
 use Rattle.tree.specs.code.Stages.{valueNo, None5}
 use Rattle.tree.specs.Judge.{judged}
 use Rattle.tree.specs.declared.Facts.{Facts}
@@ -97,3 +97,6 @@ module _ (t : List ℕ) (f : Facts) (valid : judged t ≡ Valid f) where
 pub bytes-from : (t : List ℕ) → ((k : ℕ) → getD t k 0 < 256) → (k o : ℕ) → T (all-bytes (bytesFrom k t o))
 bytes-from t b zero o = tt
 bytes-from t b (suc k) o = both (ltb (getD t o 0) 256) (all-bytes (bytesFrom k t (o + 1))) (so (lt-ltb (getD t o 0) 256 (b o))) (bytes-from t b k (o + 1))
+
+pub value-bytes : (t : List ℕ) → ((k : ℕ) → getD t k 0 < 256) → (i : ℕ) → i < valueCount t → T (all-bytes (at (tableOf t) i .bytes))
+value-bytes t b i h = rw (at-table t i h) (bytes-from t b (u16At t (offset t (nodeCount t) i + 1)) (offset t (nodeCount t) i + 3))

@@ -8,7 +8,7 @@ use native.Mathlib.Nat.{mul-le-mul-left, pow-le-pow-right, mod-lt, mod-eq-of-lt,
 use native.Mathlib.Decide.{ℕ-discrete}
 use lib.Pow.{pow-add}
 use native.Mathlib.Omega.{arith}
-use lib.Dec.{eqb, T, lit<, lt→ltb}
+use lib.Dec.{eqb, lit<, lt→ltb}
 use borrow.Author.Tests.{lt-ltb, le-ltb, ne-eqb, eq-eqb}
 use Rattle.tree.specs.code.Numbers.{Fit, valued}
 use Rattle.tree.specs.declared.floats.Spelled.{Spelled}
@@ -100,7 +100,7 @@ module _ (b : ℕ) (low : 1023 ≤ b / 2 ^ 52) (high : b / 2 ^ 52 ≤ 1075) wher
       go (yes z) = whole-middle z ∙ sym (ap (λ (c : Bool). only-if c (full b / 2 ^ (1075 - b / 2 ^ 52))) (eq-eqb _ 0 z))
       go (no d) = whole-part d ∙ sym (ap (λ (c : Bool). only-if c (full b / 2 ^ (1075 - b / 2 ^ 52))) (ne-eqb _ 0 d))
 
--- from 2 ^ 53 on: every finite float is whole, at each exponent
+-- from 2^53 on: every finite float is whole, at each exponent
 pub whole-large : (b : ℕ) → 1075 < b / 2 ^ 52 → b / 2 ^ 52 < 2047 → whole b ≡ some (full b * 2 ^ (b / 2 ^ 52 - 1075))
 whole-large b h l =
     let d : ℕ = b / 2 ^ 52 - 1075 in
@@ -144,7 +144,7 @@ pointed-fit n d h = record { head-low = let a : n / d ≤ n = div-le-self n d in
 pub pointed-value : (n d : ℕ) → n / d * 256 ^ 0 ≡ n / d
 pointed-value n d = mul-one (n / d)
 
--- below 2 ^ 31 there is no zero byte
+-- below 2^31 there is no zero byte
 pub low-value : (w : Spelled) → w .zeros ≡ 0 → valued w ≡ w .head
 low-value w e = ap (λ (z : ℕ). w .head * 256 ^ z) e ∙ mul-one (w .head)
 

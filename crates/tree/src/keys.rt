@@ -3,7 +3,6 @@
 ghost use mathlib.Core.Path.{_≡_};
 ghost use mathlib.Core.Option.{some};
 ghost use Prim.Native.Nat.{_+_, _<_, _≤_, min};
-ghost use lib.Dec.{eqb};
 ghost use lib.ListN.{getD};
 ghost use Rattle.tree.specs.Bytes.{bytesFrom, valueCount};
 ghost use Rattle.tree.specs.Values.{magnitude, valueFrom};
@@ -25,11 +24,33 @@ use crate::floats::float_of;
 use crate::lookup::few_values;
 use crate::lookup::starts;
 
-// Where an integer stands against a whole number.
+// Where a value stands against a whole number.
 enum Side {
     Below,
     Equal,
     Above,
+}
+
+impl Side {
+    fn is_below(self) -> bool
+        ensures { λ r. ⌜ r ≡ below self ⌝ }
+    {
+        match self {
+            Side::Below => true,
+            Side::Equal => false,
+            Side::Above => false,
+        }
+    }
+
+    fn is_equal(self) -> bool
+        ensures { λ r. ⌜ r ≡ level self ⌝ }
+    {
+        match self {
+            Side::Below => false,
+            Side::Equal => true,
+            Side::Above => false,
+        }
+    }
 }
 
 // The magnitude of the k bytes from o on, high byte first, where it is at most x; else x + 1.
@@ -53,23 +74,8 @@ fn leading(t: &[u8], k: usize, o: usize, x: usize) -> usize
     a
 }
 
-// The k bytes from o on are zero.
-fn all_zero(t: &[u8], k: usize, o: usize) -> bool
-    requires { ⌜ (k < 65536) × (o < 4400000000) ⌝ }
-    ensures { λ r. ⌜ r ≡ eqb (magnitude (bytesFrom k (now (t .entry)) o)) 0 ⌝ }
-{
-    let mut i = 0;
-    while i < k {
-        if byte_at(t, o + i) != 0 {
-            return false;
-        }
-        i += 1;
-    }
-    true
-}
-
 // The magnitude of the k bytes from o on against w, byte by byte.
-fn bytes_side(t: &[u8], k: usize, o: usize, w: Spelled) -> Side
+pub(crate) fn bytes_side(t: &[u8], k: usize, o: usize, w: Spelled) -> Side
     requires { ⌜ (k < 65536) × (o < 4300000003) × Fit w ⌝ }
     ensures { λ r. ⌜ r ≡ side-of (valued w) (magnitude (bytesFrom k (now (t .entry)) o)) ⌝ }
 {
@@ -84,7 +90,7 @@ fn bytes_side(t: &[u8], k: usize, o: usize, w: Spelled) -> Side
     if w.head < a {
         return Side::Above;
     }
-    if all_zero(t, w.zeros, o + first) {
+    if leading(t, w.zeros, o + first, 0) == 0 {
         return Side::Equal;
     }
     Side::Above
@@ -105,30 +111,6 @@ fn value_side(t: &[u8], o: usize, w: Spelled) -> Side
     bytes_side(t, u16_at(t, o + 1), o + 3, w)
 }
 
-fn is_below(t: &[u8], o: usize, w: Spelled) -> bool
-    requires { ⌜ (o < 4300000000) × Fit w ⌝ }
-    ensures { λ r. ⌜ r ≡ below (placed (valued w) (valueFrom (now (t .entry)) o)) ⌝ }
-{
-    let s = value_side(t, o, w);
-    match s {
-        Side::Below => true,
-        Side::Equal => false,
-        Side::Above => false,
-    }
-}
-
-fn is_equal(t: &[u8], o: usize, w: Spelled) -> bool
-    requires { ⌜ (o < 4300000000) × Fit w ⌝ }
-    ensures { λ r. ⌜ r ≡ level (placed (valued w) (valueFrom (now (t .entry)) o)) ⌝ }
-{
-    let s = value_side(t, o, w);
-    match s {
-        Side::Below => false,
-        Side::Equal => true,
-        Side::Above => false,
-    }
-}
-
 // By halving: the first of the n values that isn't below w; n where there is none.
 fn place(t: &[u8], starts: &[usize; 512], n: usize, w: Spelled) -> usize
     requires { ⌜ Starts (now t) (now starts) × (n ≤ 512) × (n ≤ valueCount (now t)) × Fit w ⌝ }
@@ -138,7 +120,8 @@ fn place(t: &[u8], starts: &[usize; 512], n: usize, w: Spelled) -> usize
     let mut left = n;
     while 0 < left {
         let half = left / 2;
-        if is_below(t, starts[lo + half], w) {
+        let s = value_side(t, starts[lo + half], w);
+        if s.is_below() {
             lo = lo + half + 1;
             left = left - half - 1;
         } else {
@@ -154,7 +137,8 @@ fn integer_number(t: &[u8], starts: &[usize; 512], v: usize, w: Spelled) -> usiz
     ensures { λ r. ⌜ (r ≡ lead (tableOf (now (t .entry))) v (some (valued w))) × (r < 65536) ⌝ }
 {
     let p = place(t, starts, v, w);
-    if is_equal(t, starts[p], w) {
+    let s = value_side(t, starts[p], w);
+    if s.is_equal() {
         return p;
     }
     v

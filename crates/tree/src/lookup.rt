@@ -1,11 +1,11 @@
-// The table of values as passes use it: fixed names by their number, traits of a value, globals.
-// Cost: a walk over the values or the globals a call; the table of strings is 512 bytes, filled once and read by value number.
+// The table of values as it is looked into: fixed names by their number, traits of a value, where it starts, globals.
+// Cost: a walk over the values or the globals a call; the table of strings is 512 bytes, that of where values start 4 KiB, each filled once and
+// read by value number.
 ghost use mathlib.Core.Path.{_≡_};
 ghost use mathlib.Core.Bool.{not};
 ghost use Prim.Native.Nat.{_<_, min};
 ghost use lib.Dec.{eqb};
-ghost use lib.ListN.{length};
-ghost use Rattle.tree.specs.Bytes.{bytesFrom, same-bytes, nodeCount, valueCount, globalCount};
+ghost use Rattle.tree.specs.Bytes.{nodeCount, valueCount, globalCount};
 ghost use Rattle.tree.specs.Values.{valueFrom, offset};
 ghost use Rattle.tree.specs.Table.{listed, tableOf, named-so, underscored, a-string, is-global};
 ghost use Rattle.tree.specs.code.Numbers.{numberNamed, Traits, Starts};
@@ -48,7 +48,7 @@ pub fn number_of(t: &[u8], name: &[u8]) -> usize
     65536
 }
 
-// How many of its values a table of 512 holds.
+// How many of the file's values a table of 512 holds.
 pub(crate) fn few_values(t: &[u8]) -> usize
     ensures { λ r. ⌜ r ≡ min (valueCount (now (t .entry))) 512 ⌝ }
 {

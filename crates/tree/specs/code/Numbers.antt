@@ -61,7 +61,7 @@ abbrev pub meant : Float → Option ℕ
 meant (Whole w) = some (valued w)
 meant Other = none
 
--- one byte more than the head fits into 64 bits; only a head that isn't 0 has zeros
+-- one byte more than the head fits into 64 bits; only a head of 53 digits or more has zeros
 pub record Fit (w : Spelled) : Type 0 where
   pub head-low : w .head < 2 ^ 60
   pub zeros-low : w .zeros < 128
@@ -71,7 +71,6 @@ abbrev pub Fits : Float → Type 0
 Fits (Whole w) = Fit w
 Fits Other = Unit
 
--- where a value stands to the integer n: other kinds before the integers, or after them
 abbrev pub below : Side → Bool
 below Below = true
 below Equal = false
@@ -85,6 +84,7 @@ level Above = false
 abbrev pub side-of : ℕ → ℕ → Side
 side-of n k = pick (ltb k n) Below (pick (eqb k n) Equal Above)
 
+-- where a value stands to the integer n: other kinds before the integers, or behind them
 abbrev pub placed : ℕ → Value → Side
 placed n v = pick (ltb (v .kind) 3) Below (pick (ltb 3 (v .kind)) Above (side-of n (magnitude (v .bytes))))
 
@@ -110,7 +110,7 @@ pub record OwnNumbers (table : List ℕ) : Type 0 where
   pub long : length table ≡ 512
   pub at-each : (v : ℕ) → v < 512 → getD table v 0 ≡ v
 
--- a table of them for the value numbers below 512
+-- a table of key numbers, for the value numbers below 512
 abbrev pub KeyNumbers : List ℕ → Mode → List ℕ → Type 0
 KeyNumbers t m table = (v : ℕ) → v < 512 → getD table v 0 ≡ key-number m (tableOf t) v
 

@@ -1,7 +1,7 @@
 use borrow.Author.Needs.{needs}
 use native.Mathlib.Omega.{arith}
 use Prim.Native.Nat.{ℕ, _^_, _≤_}
-use mathlib.Core.Path.{_≡_, sym, ap}
+use mathlib.Core.Path.{sym, ap}
 use mathlib.Core.Option.{Option, some}
 use Rattle.tree.proofs.WholeLaws.{rest-low, shift-low, shift-bytes, shifted-fit}
 use Rattle.tree.proofs.floats.shifted.Statement.{statement}

@@ -25,21 +25,21 @@ returns-3 c =
     let bytes : (j : ℕ) → getD (c .before .before .before .before .before .before .before .before .before .args .t .now) j 0 < 256 = λ j. omega (arith, c .before .before .before .before .before .before .before .before .shared-slice-known .given j) in
     file-above (c .before .before .before .before .before .before .before .before .before .args .t .now) bytes (c .before .before .before .before .before .before .before .before .before .args .k) (c .before .before .before .before .before .before .before .before .before .args .o) (c .before .before .before .before .before .before .before .before .before .args .w) (c .before .before .before .before .before .before .if1 .left) (c .before .before .before .before .leading .result) (c .before .before .before .before .leading .ensures) (c .if3 .taken)
 
-add-all-zero : tie.Need-add-all-zero
-add-all-zero c = search needs
+add-leading : tie.Need-add-leading
+add-leading c = search needs
 
-all-zero-requires : tie.Need-all-zero-requires
-all-zero-requires c κs = search needs
+leading-requires-2 : tie.Need-leading-requires-2
+leading-requires-2 c κs = search needs
 
 returns-4 : tie.Need-returns-4
 returns-4 c =
     let bytes : (j : ℕ) → getD (c .before .before .before .before .before .before .before .before .before .before .before .args .t .now) j 0 < 256 = λ j. omega (arith, c .before .before .before .before .before .before .before .before .before .before .shared-slice-known .given j) in
-    file-equal (c .before .before .before .before .before .before .before .before .before .before .before .args .t .now) bytes (c .before .before .before .before .before .before .before .before .before .before .before .args .k) (c .before .before .before .before .before .before .before .before .before .before .before .args .o) (c .before .before .before .before .before .before .before .before .before .before .before .args .w) (c .before .before .before .before .before .before .before .before .if1 .left) (c .before .before .before .before .before .before .leading .result) (c .before .before .before .before .before .before .leading .ensures) (c .before .before .before .before .if2 .left) (c .before .before .if3 .left) (sym (c .before .all-zero .ensures) ∙ c .if4 .taken)
+    file-equal (c .before .before .before .before .before .before .before .before .before .before .before .args .t .now) bytes (c .before .before .before .before .before .before .before .before .before .before .before .args .k) (c .before .before .before .before .before .before .before .before .before .before .before .args .o) (c .before .before .before .before .before .before .before .before .before .before .before .args .w) (c .before .before .before .before .before .before .before .before .if1 .left) (c .before .before .before .before .before .before .leading .result) (c .before .before .before .before .before .before .leading .ensures) (c .before .before .before .before .if2 .left) (c .before .before .if3 .left) (sym (c .before .leading2 .ensures) ∙ c .if4 .taken)
 
 returns-5 : tie.Need-returns-5
 returns-5 c =
     let bytes : (j : ℕ) → getD (c .before .before .before .before .before .before .before .before .before .before .before .args .t .now) j 0 < 256 = λ j. omega (arith, c .before .before .before .before .before .before .before .before .before .before .shared-slice-known .given j) in
-    file-rest (c .before .before .before .before .before .before .before .before .before .before .before .args .t .now) bytes (c .before .before .before .before .before .before .before .before .before .before .before .args .k) (c .before .before .before .before .before .before .before .before .before .before .before .args .o) (c .before .before .before .before .before .before .before .before .before .before .before .args .w) (c .before .before .before .before .before .before .before .before .if1 .left) (c .before .before .before .before .before .before .leading .result) (c .before .before .before .before .before .before .leading .ensures) (c .before .before .before .before .if2 .left) (c .before .before .if3 .left) (sym (c .before .all-zero .ensures) ∙ c .if4 .left)
+    file-rest (c .before .before .before .before .before .before .before .before .before .before .before .args .t .now) bytes (c .before .before .before .before .before .before .before .before .before .before .before .args .k) (c .before .before .before .before .before .before .before .before .before .before .before .args .o) (c .before .before .before .before .before .before .before .before .before .before .before .args .w) (c .before .before .before .before .before .before .before .before .if1 .left) (c .before .before .before .before .before .before .leading .result) (c .before .before .before .before .before .before .leading .ensures) (c .before .before .before .before .if2 .left) (c .before .before .if3 .left) (λ q. c .if4 .left (c .before .leading2 .ensures ∙ q))
 
 pub bytes-side-spec : {M : Type 1} → statement M
 bytes-side-spec =
@@ -49,7 +49,7 @@ bytes-side-spec =
     leading-requires
     returns-2
     returns-3
-    add-all-zero
-    all-zero-requires
+    add-leading
+    leading-requires-2
     returns-4
     returns-5)

@@ -7,23 +7,18 @@ use Rattle.tree.proofs.keys.entry_of.Reads as reads
 use Rattle.tree.proofs.keys.entry_of.Lts as lts
 use Rattle.tree.proofs.bytes.widen.Reads as widen-reads
 
--- src/keys.rt:157:22
 mul-widen : tie.Need-mul-widen
 mul-widen c = search needs
 
--- src/keys.rt:157:22
 shared-slice-read-widen : tie.Need-shared-slice-read-widen
 shared-slice-read-widen c = search needs
 
--- src/keys.rt:157:9
 widen-requires : tie.Need-widen-requires
 widen-requires c κs = search needs
 
--- src/keys.rt:157:9
 returns : tie.Need-returns
 returns c = search needs
 
--- src/keys.rt:153:1
 returns-2 : tie.Need-returns-2
 returns-2 c =
     sym (byte-past (c .before .before .args .numbers .now) (c .before .before .args .v) (c .if1 .left))

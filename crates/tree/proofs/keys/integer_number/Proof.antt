@@ -1,5 +1,5 @@
 use native.Mathlib.Omega.{arith}
-use mathlib.Core.Path.{sym, _∙_}
+use mathlib.Core.Path.{_∙_}
 use Rattle.tree.specs.Table.{tableOf}
 use Rattle.tree.specs.code.Numbers.{valued}
 use Rattle.tree.proofs.Fields.{offset-low}
@@ -12,45 +12,45 @@ use Rattle.tree.proofs.keys.integer_number.Tie as tie
 place-requires : tie.Need-place-requires
 place-requires c κs = search needs
 
-mul-is-equal : tie.Need-mul-is-equal
-mul-is-equal c = search needs
+mul-value-side : tie.Need-mul-value-side
+mul-value-side c = search needs
 
-element-copy-out-is-equal : tie.Need-element-copy-out-is-equal
-element-copy-out-is-equal c = search needs
+element-copy-out-value-side : tie.Need-element-copy-out-value-side
+element-copy-out-value-side c = search needs
+
+value-side-requires : tie.Need-value-side-requires
+value-side-requires c κs =
+    let t = c .before .before .before .args .t .now in
+    let p = c .before .place in
+    let e = start-at t (c .before .before .before .args .starts .now) (c .before .before .before .pre .0) (p .result) (omega (arith, p .ensures .1)) (omega (arith, p .ensures .1)) in
+    let l = offset-low t (λ j. omega (arith, c .before .before .shared-slice-known .given j)) (p .result) in
+    (omega (arith, e, l, p .ensures .1), c .before .before .before .pre .3)
 
 is-equal-requires : tie.Need-is-equal-requires
-is-equal-requires c κs =
-    let t = c .before .before .before .args .t .now in
-    let p = c .before .place .result in
-    let e = start-at t (c .before .before .before .args .starts .now) (c .before .before .before .pre .0) p (omega (arith, c .before .place .ensures .1)) (omega (arith, c .before .place .ensures .1)) in
-    let l = offset-low t (λ j. omega (arith, c .before .before .shared-slice-known .given j)) p in
-    (omega (arith, e, l, c .before .place .ensures .1), c .before .before .before .pre .3)
+is-equal-requires c κs = search needs
 
 returns : tie.Need-returns
 returns c =
-    let t = c .before .before .before .before .before .args .t .now in
-    let v = c .before .before .before .before .before .args .v in
-    let n = valued (c .before .before .before .before .before .args .w) in
-    let p = c .before .before .before .place .result in
-    let e = sym (level-here t (c .before .before .before .before .before .args .starts .now) (c .before .before .before .before .before .pre .0) p (omega (arith, c .before .before .before .place .ensures .1)) (omega (arith, c .before .before .before .place .ensures .1)) n) ∙ (sym (c .before .is-equal .ensures) ∙ c .if1 .taken) in
-    (lead-here (tableOf t) v n p (c .before .before .before .place .ensures .0) e, omega (arith, c .before .before .before .place .ensures .1))
+    let t = c .before .before .before .before .before .before .args .t .now in
+    let p = c .before .before .before .before .place in
+    let e = level-here t (c .before .before .before .before .before .before .args .starts .now) (c .before .before .before .before .before .before .pre .0) (p .result) (omega (arith, p .ensures .1)) (omega (arith, p .ensures .1)) (valued (c .before .before .before .before .before .before .args .w)) (c .before .before .value-side .ensures) (c .before .is-equal .ensures) ∙ c .if1 .taken in
+    (lead-here (tableOf t) (c .before .before .before .before .before .before .args .v) (valued (c .before .before .before .before .before .before .args .w)) (p .result) (p .ensures .0) e, omega (arith, p .ensures .1))
 
 returns-2 : tie.Need-returns-2
 returns-2 c =
-    let t = c .before .before .before .before .before .args .t .now in
-    let v = c .before .before .before .before .before .args .v in
-    let n = valued (c .before .before .before .before .before .args .w) in
-    let p = c .before .before .before .place .result in
-    let e = sym (level-here t (c .before .before .before .before .before .args .starts .now) (c .before .before .before .before .before .pre .0) p (omega (arith, c .before .before .before .place .ensures .1)) (omega (arith, c .before .before .before .place .ensures .1)) n) ∙ (sym (c .before .is-equal .ensures) ∙ c .if1 .left) in
-    (lead-away (tableOf t) v n p (c .before .before .before .place .ensures .0) e, omega (arith, c .before .before .before .place .ensures .1))
+    let t = c .before .before .before .before .before .before .args .t .now in
+    let p = c .before .before .before .before .place in
+    let e = level-here t (c .before .before .before .before .before .before .args .starts .now) (c .before .before .before .before .before .before .pre .0) (p .result) (omega (arith, p .ensures .1)) (omega (arith, p .ensures .1)) (valued (c .before .before .before .before .before .before .args .w)) (c .before .before .value-side .ensures) (c .before .is-equal .ensures) ∙ c .if1 .left in
+    (lead-away (tableOf t) (c .before .before .before .before .before .before .args .v) (valued (c .before .before .before .before .before .before .args .w)) (p .result) (p .ensures .0) e, omega (arith, p .ensures .1))
 
 pub integer-number-spec : {M : Type 1} → statement M
 integer-number-spec =
     tie.close
     (tie.spec
     place-requires
-    mul-is-equal
-    element-copy-out-is-equal
+    mul-value-side
+    element-copy-out-value-side
+    value-side-requires
     is-equal-requires
     returns
     returns-2)

@@ -1,8 +1,8 @@
--- The invariant: a is what the bytes before i say, and no more than one byte past x.
+-- The invariant: a is what the bytes before i say, and below 2^60 + 256.
 use borrow.Author.Needs.{needs}
 use Prim.Native.Nat.{ℕ, _+_, _*_, _-_, _/_, _≤_, _<_, min}
 use native.Mathlib.Omega.{arith}
-use mathlib.Core.Path.{_≡_, sym, ap, _∙_}
+use mathlib.Core.Path.{_≡_, sym, _∙_}
 use lib.ListN.{getD}
 use Rattle.tree.specs.Bytes.{bytesFrom}
 use Rattle.tree.specs.Values.{magnitude, onward}

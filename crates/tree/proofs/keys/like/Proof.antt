@@ -6,25 +6,20 @@ use Rattle.tree.proofs.keys.like.Reads as reads
 use Rattle.tree.proofs.keys.like.Lts as lts
 use Rattle.tree.proofs.keys.entry_of.Reads as entry-of-reads
 
--- src/keys.rt:167:9
 returns : tie.Need-returns
 returns c =
     like-one (c .before .before .args .numbers .now) (c .before .before .args .a) (c .before .before .args .b) (c .if1 .taken)
 
--- src/keys.rt:169:8
 entry-of-requires : tie.Need-entry-of-requires
 entry-of-requires c κs = search needs
 
--- src/keys.rt:169:34
 entry-of-requires-2 : tie.Need-entry-of-requires-2
 entry-of-requires-2 c κs = search needs
 
--- src/keys.rt:170:9
 returns-2 : tie.Need-returns-2
 returns-2 c =
     like-two (c .before .before .before .before .before .args .numbers .now) (c .before .before .before .before .before .args .a) (c .before .before .before .before .before .args .b) (c .before .before .before .if1 .left) (c .before .before .entry-of .ensures) (c .before .entry-of2 .ensures) (c .if2 .taken)
 
--- src/keys.rt:163:1
 returns-3 : tie.Need-returns-3
 returns-3 c =
     like-none (c .before .before .before .before .before .args .numbers .now) (c .before .before .before .before .before .args .a) (c .before .before .before .before .before .args .b) (c .before .before .before .if1 .left) (c .before .before .entry-of .ensures) (c .before .entry-of2 .ensures) (c .if2 .left)

@@ -1,9 +1,8 @@
 -- The invariant: halving what is left finds what halving all finds.
 use borrow.Author.Needs.{needs}
-use Prim.Native.Nat.{ℕ, _+_, _-_, _/_, _≤_, _<_}
+use Prim.Native.Nat.{ℕ, _+_, _-_, _/_, _≤_}
 use native.Mathlib.Omega.{arith}
-use mathlib.Core.Path.{_≡_, refl, sym, ap, subst, _∙_}
-use lib.ListN.{getD}
+use mathlib.Core.Path.{_≡_, refl, sym, ap, _∙_}
 use Rattle.tree.specs.Table.{tableOf}
 use Rattle.tree.specs.code.Halving.{halve, halved}
 use Rattle.tree.specs.code.Numbers.{short-of, valued}
@@ -25,22 +24,25 @@ loop-holds : tie.Need-loop-holds Inv-loop μ-loop
 loop-holds c =
     (omega arith, (c .before .args .n, omega arith, refl))
 
-add-is-below : tie.Need-add-is-below Inv-loop μ-loop
-add-is-below c = search needs
+add-value-side : tie.Need-add-value-side Inv-loop μ-loop
+add-value-side c = search needs
 
-mul-is-below : tie.Need-mul-is-below Inv-loop μ-loop
-mul-is-below c = search needs
+mul-value-side : tie.Need-mul-value-side Inv-loop μ-loop
+mul-value-side c = search needs
 
-element-copy-out-is-below : tie.Need-element-copy-out-is-below Inv-loop μ-loop
-element-copy-out-is-below c = search needs
+element-copy-out-value-side : tie.Need-element-copy-out-value-side Inv-loop μ-loop
+element-copy-out-value-side c = search needs
 
-is-below-requires : tie.Need-is-below-requires Inv-loop μ-loop
-is-below-requires c κs =
+value-side-requires : tie.Need-value-side-requires Inv-loop μ-loop
+value-side-requires c κs =
     let t = c .before .before .before .before .args .t .now in
     let u = c .before .before .loop .lo + c .before .before .loop .left / 2 in
     let e = start-at t (c .before .before .before .before .args .starts .now) (c .before .before .before .before .pre .0) u (omega arith) (omega arith) in
     let l = offset-low t (λ j. omega (arith, c .before .before .before .shared-slice-known .given j)) u in
     (omega (arith, e, l), c .before .before .before .before .pre .3)
+
+is-below-requires : tie.Need-is-below-requires Inv-loop μ-loop
+is-below-requires c κs = search needs
 
 add-lo : tie.Need-add-lo Inv-loop μ-loop
 add-lo c = search needs
@@ -59,28 +61,22 @@ loop-less c = search needs
 
 loop-again : tie.Need-loop-again Inv-loop μ-loop
 loop-again c =
-    let t = c .before .before .before .before .before .before .args .t .now in
-    let w = c .before .before .before .before .before .before .args .w in
-    let lo = c .before .before .before .before .loop .lo in
-    let left = c .before .before .before .before .loop .left in
-    let k = c .before .before .before .before .loop .inv .1 .0 in
-    let h = c .before .before .before .before .loop .inv .1 .1 in
-    let e = sym (short-here t (c .before .before .before .before .before .before .args .starts .now) (c .before .before .before .before .before .before .pre .0) (lo + left / 2) (omega arith) (omega arith) (valued w)) ∙ (sym (c .before .is-below .ensures) ∙ c .if1 .taken) in
-    (omega arith, (k - 1, omega arith, halve-up k lo left (short-of (tableOf t) (valued w)) (omega arith) h e ∙ c .before .before .before .before .loop .inv .1 .2))
+    let t = c .before .before .before .before .before .before .before .args .t .now in
+    let w = c .before .before .before .before .before .before .before .args .w in
+    let l = c .before .before .before .before .before .loop in
+    let e = short-here t (c .before .before .before .before .before .before .before .args .starts .now) (c .before .before .before .before .before .before .before .pre .0) (l .lo + l .left / 2) (omega arith) (omega arith) (valued w) (c .before .before .value-side .ensures) (c .before .is-below .ensures) ∙ c .if1 .taken in
+    (omega arith, (l .inv .1 .0 - 1, omega arith, halve-up (l .inv .1 .0) (l .lo) (l .left) (short-of (tableOf t) (valued w)) (omega arith) (l .inv .1 .1) e ∙ l .inv .1 .2))
 
 loop-less-2 : tie.Need-loop-less-2 Inv-loop μ-loop
 loop-less-2 c = search needs
 
 loop-again-2 : tie.Need-loop-again-2 Inv-loop μ-loop
 loop-again-2 c =
-    let t = c .before .before .before .before .before .before .args .t .now in
-    let w = c .before .before .before .before .before .before .args .w in
-    let lo = c .before .before .before .before .loop .lo in
-    let left = c .before .before .before .before .loop .left in
-    let k = c .before .before .before .before .loop .inv .1 .0 in
-    let h = c .before .before .before .before .loop .inv .1 .1 in
-    let e = sym (short-here t (c .before .before .before .before .before .before .args .starts .now) (c .before .before .before .before .before .before .pre .0) (lo + left / 2) (omega arith) (omega arith) (valued w)) ∙ (sym (c .before .is-below .ensures) ∙ c .if1 .left) in
-    (omega arith, (k - 1, omega arith, halve-down k lo left (short-of (tableOf t) (valued w)) (omega arith) h e ∙ c .before .before .before .before .loop .inv .1 .2))
+    let t = c .before .before .before .before .before .before .before .args .t .now in
+    let w = c .before .before .before .before .before .before .before .args .w in
+    let l = c .before .before .before .before .before .loop in
+    let e = short-here t (c .before .before .before .before .before .before .before .args .starts .now) (c .before .before .before .before .before .before .before .pre .0) (l .lo + l .left / 2) (omega arith) (omega arith) (valued w) (c .before .before .value-side .ensures) (c .before .is-below .ensures) ∙ c .if1 .left in
+    (omega arith, (l .inv .1 .0 - 1, omega arith, halve-down (l .inv .1 .0) (l .lo) (l .left) (short-of (tableOf t) (valued w)) (omega arith) (l .inv .1 .1) e ∙ l .inv .1 .2))
 
 returns : tie.Need-returns Inv-loop μ-loop
 returns c =
@@ -97,9 +93,10 @@ place-spec =
     Inv-loop
     μ-loop
     loop-holds
-    add-is-below
-    mul-is-below
-    element-copy-out-is-below
+    add-value-side
+    mul-value-side
+    element-copy-out-value-side
+    value-side-requires
     is-below-requires
     add-lo
     add-lo-2
