@@ -65,6 +65,13 @@ def first_eight(listing):
     return re.sub(rb"^(16(?: \d+){5}) \d+ \d+$", rb"\1", lines, flags=re.MULTILINE)
 
 
+def beside_rust(tree, listing):
+    """What of a tree's listing the Rust has: in version 2, which it doesn't know, no code 15, and so no total."""
+    if tree[3:5] == b"\x02\x00":
+        listing = re.sub(rb"^(15|total) .*\n", b"", listing, flags=re.MULTILINE)
+    return first_eight(listing)
+
+
 # examples/listings.txt: a line `$ NAME` or `$ --strict NAME`, then the listing.
 
 

@@ -9,7 +9,8 @@ parses by Python's `ast`, so it takes only what is the same in Starlark and Pyth
 stand in the order of docs/TREE.md's table; a body of one statement is that statement itself, as in the example of 47 bytes.
 
 Spans are byte offsets of the script as it stands in the file: a byte order mark counts as the three bytes that it is. A line
-ends with LF, CR LF or CR alone, as for Python. Lines `# globals: NAME ..` give the globals; without one they aren't given.
+ends with LF, CR LF or CR alone, as for Python. Lines `# globals: NAME ..` give the globals; without one they aren't given. A line
+`# dialect: 2` declares dialect 2, and the tree is of version 2; without one, or with `# dialect: 1`, it is of version 1.
 
 A script that can't be read or exported gets one line on standard error and no tree:
 
@@ -35,6 +36,7 @@ SORTS = ("a name", 255), ("a string", 255), ("a bytes literal", 255), ("an integ
 MARK = b"\xef\xbb\xbf"
 LINE_END = re.compile(rb"\r\n?|\n")
 LISTED = re.compile(rb"(?:\A(?:\xef\xbb\xbf)?|[\r\n])# globals:([^\r\n]*)")
+DECLARED = re.compile(rb"(?:\A(?:\xef\xbb\xbf)?|[\r\n])# dialect:[ \t]*([^\r\n]*)")
 # What may stand between `def` and the name, and between a parameter and a lone star after it.
 BEFORE_NAME = re.compile(rb"def(?:[ \t\f]|\\(?:\r\n?|\n))*")
 BEFORE_STAR = re.compile(rb"(?:[\s,()\\]|#[^\r\n]*)*")
@@ -419,6 +421,16 @@ class Script:
                 self.stop(offset, "a global that is no name")
         return words if lines else None
 
+    def dialect(self):
+        """The dialect that the script declares, which is its tree's version; 1 where no line does."""
+        lines = [(line.start(1), line.group(1).strip()) for line in DECLARED.finditer(self.source)]
+        for offset, word in lines:
+            if word not in (b"1", b"2"):
+                self.stop(offset, "a dialect that is neither 1 nor 2")
+            if word != lines[0][1]:
+                self.stop(offset, "another dialect than the script declared before")
+        return int(lines[0][1]) if lines else 1
+
     def hold(self, root, listed):
         """Refuses what passes a limit."""
         entries = []
@@ -477,16 +489,16 @@ def tree_file(source):
     script = Script(source)
     root, listed = script.module(), script.globals()
     script.hold(root, listed)
-    return packed(root, None if listed is None else [word for _, word in listed])
+    return packed(root, None if listed is None else [word for _, word in listed], script.dialect())
 
 
-def packed(root, listed):
-    """The tree file of a root and of the globals' names, None where they aren't given."""
+def packed(root, listed, version=1):
+    """The tree file of a root and of the globals' names, None where they aren't given, in a version."""
     nodes = [node for node, _ in root.walk()]
     names = {(0, word) for word in listed or ()}
     values = sorted({n.value for n in nodes if n.value} | names, key=lambda v: (v[0], len(v[1]), v[1]))
     number = {v: i for i, v in enumerate(values)}
-    out = [b"SLT", struct.pack("<HHHH", 1, len(nodes), len(values), NONE if listed is None else len(names))]
+    out = [b"SLT", struct.pack("<HHHH", version, len(nodes), len(values), NONE if listed is None else len(names))]
     for n in nodes:
         value = NONE if n.value is None else number[n.value]
         out.append(struct.pack("<BBHIIHH", n.kind, n.role, n.size, *n.span, value, 0))

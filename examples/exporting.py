@@ -32,6 +32,17 @@ SPANS = [
     ("\N{LATIN SMALL LETTER E WITH ACUTE} = 1", 0, "\N{LATIN SMALL LETTER E WITH ACUTE} 1"),
 ]
 
+# A script, and the version of its tree.
+VERSIONS = [
+    ("x = 1\n", 1),
+    ("# dialect: 2\nx = 1\n", 2),
+    (MARK + "# dialect: 2\n", 2),
+    ("x = 1\r# dialect:2 \r", 2),
+    ("# dialect: 1\r\n# globals: x\r\n# dialect: 1\r\n", 1),
+    ("x = 1 # dialect: 2\n", 1),
+    (" # dialect: 2\n", 1),
+]
+
 # Python that is no Starlark: a script of one line, where in it, and what is named.
 FOREIGN = [
     ("while x: pass", 1, "`while`"), ("class A: pass", 1, "`class`"), ("import a", 1, "`import`"),
@@ -74,6 +85,9 @@ REFUSED = [
     ("\N{LATIN SMALL LIGATURE FI} = 1", "1:1: a name that Python spells otherwise, fi"),
     ("def f(\N{LATIN SMALL LIGATURE FI}): pass", "1:7: a name that Python spells otherwise, fi"),
     ("# globals: a b,c", "1:14: a global that is no name"),
+    ("# dialect: 3", "1:12: a dialect that is neither 1 nor 2"),
+    ("x = 1\n# dialect:\n", "2:11: a dialect that is neither 1 nor 2"),
+    ("# dialect: 2\n# dialect: 1", "2:12: another dialect than the script declared before"),
     # Limits, each one past its number.
     ("-" * 47 + "x", "1:48: nested deeper than 48; a tree takes at most that depth"),
     ("x = a" + " and a" * 47, "1:5: nested deeper than 48; a tree takes at most that depth"),
@@ -131,6 +145,9 @@ def script_faults():
     for source, first, texts in SPANS:
         if refusal(source) or leaves(source) != (first, texts):
             yield f"export.py: of {source[:40]!r} the leaves are {refusal(source) or leaves(source)}"
+    for source, version in VERSIONS:
+        if export.tree_file(as_bytes(source))[3:5] != bytes((version, 0)):
+            yield f"export.py: of {source[:40]!r} the tree is not of version {version}"
     foreign = [(source, f"1:{column}: {what} is no Starlark") for source, column, what in FOREIGN]
     for source, said in foreign + REFUSED + [(source, None) for source in AT_LIMITS]:
         found = refusal(source)
@@ -221,4 +238,4 @@ def faults():
 
 
 def count():
-    return len(SPANS) + len(FOREIGN) + len(REFUSED) + len(AT_LIMITS) + len(COMMANDS) + 7
+    return len(SPANS) + len(VERSIONS) + len(FOREIGN) + len(REFUSED) + len(AT_LIMITS) + len(COMMANDS) + 7

@@ -1,4 +1,5 @@
-/* Yudronkha: the lint of Starlark tree files, for C and C++. docs/TREE.md says what a tree file is.
+/* Yudronkha: the lint of Starlark tree files, for C and C++. docs/TREE.md says what a tree file is. Every call that takes one takes
+ * both versions, 1 and 2 (of scripts that declare dialect 2); they have one layout, and differ in code 15 alone.
  *
  * Link with liblint_c.a, which `rt staticlib lint_c` writes to target/staticlib/: code for x86-64 Linux under the System V
  * calling convention. Of other libraries it needs only memcpy, memmove and memset.
@@ -29,14 +30,15 @@
 extern "C" {
 #endif
 
-/* Version 3.0.1 of this header, as major * 10000 + minor * 100 + patch. Major goes up where the layout of a call, a record or a
- * report changes, or a number gets another meaning, so that a program has to be changed; minor where a call, a code or a refusal
- * is added or a size below grows, so that it has to be compiled anew at most; patch with any other change.
+/* Version 3.1.0 of this header, as major * 10000 + minor * 100 + patch. Major goes up where the layout of a call, a record or a
+ * report changes, or a number gets another meaning, so that a program has to be changed; minor where a call, a code, a refusal
+ * or a version of tree files is added or a size below grows, so that it has to be compiled anew at most; patch with any other change.
+ * From 3.0.1: tree files of version 2 are taken, too. No program has to be changed.
  * From 3.0.0: with strict keys whole floats of 2^53 and more are their integers, too. No program has to be changed.
  * From 2.0.0: a record has ten words, the first eight as they were. A program that steps through the answer room and sizes it by
  * YUDRONKHA_RECORD_WORDS is compiled anew; one that has an 8 there is changed (81,920 words were room for 10,240 records). No
  * call's parameters, no other number and no report changed. */
-#define YUDRONKHA_VERSION 30001
+#define YUDRONKHA_VERSION 30100
 
 /* Sizes, in elements of each room. */
 #define YUDRONKHA_TREE_BYTES_MOST 149515 /* no valid tree is longer; a longer one gets its refusal like any other bytes */
@@ -65,7 +67,7 @@ extern "C" {
 enum yudronkha_number {
     YUDRONKHA_LISTED = 0,               /* the list is written; report[0] is how many records it has, which may be 0 */
     YUDRONKHA_REFUSED_MARK = 1,         /* under 11 bytes, or the mark is not SLT; place 0 */
-    YUDRONKHA_REFUSED_VERSION = 2,      /* version not 1; place 0 */
+    YUDRONKHA_REFUSED_VERSION = 2,      /* the version of the tree file is neither 1 nor 2; place 0 */
     YUDRONKHA_REFUSED_COUNTS = 3,       /* nodes 0 or over 1,024; values over 512; globals over 512 and not 65535; place 0 */
     YUDRONKHA_REFUSED_SECTIONS = 4,     /* the sections, with lengths as written, don't fill the input exactly; place 0 */
     YUDRONKHA_REFUSED_VALUE = 5,        /* form or order of a value is wrong; place: the value */
@@ -101,7 +103,8 @@ enum yudronkha_code {
     YUDRONKHA_NO_EFFECT = 13,                /* at the expression */
     /* incompatible */
     YUDRONKHA_INCOMPATIBLE_TYPE_CHECK = 14,    /* at the comparison; value: the type's name */
-    YUDRONKHA_DUPLICATE_TOP_LEVEL_ASSIGN = 15, /* at the later name; value: the name; second: the name as first defined */
+    YUDRONKHA_DUPLICATE_TOP_LEVEL_ASSIGN = 15, /* at the later name; value: the name; second: the name as first defined. x = x, where
+                                                  a load defined x first, is free: once in version 1, each time in version 2 */
     /* dubious */
     YUDRONKHA_DUPLICATE_KEY = 16,          /* at the previous equal key; value and second: the later key; no third, but a reason */
     YUDRONKHA_IDENTIFIER_AS_STATEMENT = 17 /* at the identifier; value: the name */

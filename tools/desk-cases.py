@@ -4,10 +4,10 @@
 Writes crates/desk/stdin and crates/desk/stdout, on which the gate runs the program desk: requests, and what must be answered.
 With --check it writes nothing, and says whether they are as it would write them. Exit status: 0, 1 they aren't, 2 wrong use.
 
-No answer comes from the program itself: lists are the Rust's (compare/recorded, examples/listings.txt), with nodes and the
-reasons of equal keys by document 01's rules as compare/ has them, or, with strict keys, those of the rules; logs are written by
-examples/log.py from these lists; the rest is counted here. Whether an integer and a float are one number (02, §2) is said by
-Python, which compares them by exact value.
+No answer comes from the program itself: lists are the Rust's (compare/recorded, examples/listings.txt), with nodes, the reasons
+of equal keys and code 15 of version 2 by document 01's rules as compare/ has them, or, with strict keys, those of the rules;
+logs are written by examples/log.py from these lists; the rest is counted here. Whether an integer and a float are one number
+(02, §2) is said by Python, which compares them by exact value.
 """
 import math
 import pathlib
@@ -28,6 +28,9 @@ RECORDED = ROOT / "compare" / "recorded"
 WORK, RECORD, CODES = 32768, 10, 17
 # More than the program has of any room, which is taken as all that it has.
 AMPLE = 2**32 - 1
+# Recorded trees whose list is shorter in version 2, and versions that there aren't.
+EXPORTS = "known 7: load x, x = x, x = x", "x = x, then another assign"
+VERSIONS = 0, 3, 258, 65535
 # An integer and a float that is equal or near: at 0, around the bounds of i32, of 2^53 and of words, up to the largest integer
 # of 64 bytes, and floats that no integer of a file equals. 02's own pair has its log too.
 LARGEST = 2**512 - 1
@@ -86,8 +89,13 @@ def tree_of(name):
     return log.sample() if name == "log.py" else (SCRIPTS / name).read_bytes()
 
 
-def recorded():
-    for tree, listing in zip(asking.files(RECORDED / "recorded.bin"), asking.lists(RECORDED / "recorded.list")):
+def pairs():
+    """The recorded trees, each with its list."""
+    return zip(asking.files(RECORDED / "recorded.bin"), asking.lists(RECORDED / "recorded.list"))
+
+
+def recorded(_):
+    for tree, listing in pairs():
         yield request(0, tree), listing
 
 
@@ -170,6 +178,24 @@ def floats(_):
                     yield request(LOG | strict * STRICT, tree), logged(tree, listing)
 
 
+def dialect(_):
+    """Trees of version 2 (02, §9), one without records and one with, in rooms too small for version 1; other versions."""
+    names = (line.split(" ", 1)[1] for line in (RECORDED / "recorded.txt").read_text().splitlines())
+    named = dict(zip(names, pairs()))
+    for how in EXPORTS:
+        (first, more), (tree, listing) = named[how], named[f"version 2: {how}"]
+        text, words = logged(tree, listing), RECORD * total(listing)
+        for keys in (0, STRICT):
+            yield request(keys, tree, rooms=(WORK, words, 0, 0)), listing
+            yield request(keys | TALLY, tree), listing + tally(listing)
+            yield request(keys | LOG, tree, rooms=(WORK, words, len(text), 0)), text
+            yield request(keys | LOG, tree, rooms=(WORK, words, len(text) - 1, 0)), refused(12, len(text))
+            yield request(keys, first, rooms=(WORK, words, 0, 0)), refused(11, total(more))
+    for version in VERSIONS:
+        other = tree[:3] + struct.pack("<H", version) + tree[5:]
+        yield from ((request(choices, other), refused(2, 0)) for choices in (STRICT, TALLY, LOG))
+
+
 def strange(listings):
     """Choices that there aren't, with all that such a request has, and after each a good request: nothing is lost."""
     tree, listing = tree_of("no-effect.slt"), listings["no-effect.slt", False]
@@ -216,9 +242,8 @@ def cut_short():
 
 def cases():
     listings = asking.listings()
-    for part in (samples, logs, rooms, tallies, floats, strange, lengths):
+    for part in (samples, logs, rooms, tallies, floats, dialect, strange, lengths, recorded):
         yield from part(listings)
-    yield from recorded()
     yield cut_short()
 
 

@@ -80,6 +80,11 @@ class Tree:
         self.size = about.st_size if stat.S_ISREG(about.st_mode) else None
 
 
+def version(tree):
+    """The version that a valid tree file says it is of."""
+    return int.from_bytes(tree.data[3:5], "little")
+
+
 def opened(path):
     if path == "-":
         if sys.stdin is None:

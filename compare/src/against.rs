@@ -42,8 +42,10 @@ impl Side {
         self.source.answer(file, None)
     }
 
-    pub fn agrees(self, own: &str, other: &str) -> bool {
-        self.extent.of(own) == self.extent.of(other)
+    /// Whether two lists of a file are the same in what it says.
+    pub fn agrees(self, file: &[u8], own: &str, other: &str) -> bool {
+        let said = |list| self.extent.of(&self.source.part_of(file, list));
+        said(own) == said(other)
     }
 }
 
@@ -144,7 +146,7 @@ impl Differences {
 
     fn add(&mut self, file: &[u8], own: &str, other: &str) {
         self.files += 1;
-        if self.side.agrees(own, other) {
+        if self.side.agrees(file, own, other) {
             return;
         }
         self.count += 1;
@@ -173,7 +175,7 @@ impl Differences {
         let side = self.side;
         let file = reduced(file, |files| {
             let lists = program.lists(files)?;
-            let differ = |(f, l): (&Vec<u8>, String)| !side.agrees(&program.wanted(side.source, f), &l);
+            let differ = |(f, l): (&Vec<u8>, String)| !side.agrees(f, &program.wanted(side.source, f), &l);
             Ok(files.iter().zip(lists).map(differ).collect())
         })?;
         let other = program.lists(std::slice::from_ref(&file))?.remove(0);

@@ -2,6 +2,7 @@
 use crate::against::{against, with_lists, Differences, Program, Side, Takes};
 use crate::batch::{self, input, print, print_all};
 use crate::coverage::Coverage;
+use crate::file::version;
 use crate::judge::judge;
 use crate::listing::{Source, PASSES};
 use crate::make::Plan;
@@ -18,17 +19,18 @@ const USAGE: &str = "usage:
   compare judge [--batch]             `valid` or `refused N P`
   compare show                        a file's nodes by name
   compare make [--seed S] [--from I] [--count N] [--any-order] [--damage] [--long] [--shared] [--floats]
+                                      [--dialect]
                                       generated files, each after its length, on standard output
   compare sized SORT                  trees of one sort at growing numbers of nodes, each after its length;
                                       SORT: straight, loops, dicts, names
   compare coverage FILES..            what files show
-  compare lists [--rules | --strict] [--eight] [--before-floats] FILES LISTS
+  compare lists [--rules | --strict] [--eight] [--before R] FILES LISTS
                                       the Rust beside lists written before; --rules: and document 01's rules,
                                       strict keys: these alone. Of a record's ten numbers the Rust says neither
-                                      the reason of 16 nor the node of 1 to 6, the rules say all; --eight: of
-                                      lists of 01 alone its eight numbers a record, of 16 six;
-                                      --before-floats: strict lists older than 02, §2, so files on which
-                                      it finds equal keys are left out
+                                      the reason of 16 nor the node of 1 to 6, and nothing of 15 in version 2,
+                                      the rules say all; --eight: of lists of 01 alone its eight numbers a record,
+                                      of 16 six; --before: lists older than a request of 02, so files of which it
+                                      says something new are left out; R: dialect (§9), or floats (§2, then §9)
   compare noticed FILES LISTS         whether the Rust and the rules would notice a wrong number in right lists
   compare against [--each | --desk] [--rules | --strict] [--chunk N] [--as-found] FILES.. -- PROGRAM ..
                                       the same beside a program, which takes files as --batch has them;
@@ -126,13 +128,10 @@ pub fn run(words: &[String]) -> Result<bool, String> {
             print(show(&input()).as_bytes());
             Ok(true)
         }
-        "make" => {
-            let plain = ["--any-order", "--damage", "--long", "--shared", "--floats"];
-            make(Words::new(words, &["--seed", "--from", "--count"], &plain)?)
-        }
+        "make" => make(Words::new(words, &["--seed", "--from", "--count"], &Plan::FLAGS)?),
         "sized" => sized(Words::new(words, &[], &[])?),
         "coverage" => coverage(Words::new(words, &[], &[])?),
-        "lists" => lists(Words::new(words, &[], &["--rules", "--strict", "--eight", "--before-floats"])?),
+        "lists" => lists(Words::new(words, &["--before"], &["--rules", "--strict", "--eight"])?),
         "noticed" => wrong_numbers(Words::new(words, &[], &[])?),
         "record" => record(Words::new(words, &["--seed", "--count", "--bytes"], &[])?),
         "against" => {
@@ -175,21 +174,8 @@ fn judged(words: Words) -> Result<bool, String> {
     answers(words.has("--batch"), verdict, verdict)
 }
 
-fn plan(words: &Words) -> Result<Plan, String> {
-    let seed = words.number("--seed", 1)?;
-    let has = |flag| words.has(flag);
-    Ok(Plan {
-        seed,
-        any_order: has("--any-order"),
-        damage: has("--damage"),
-        long: has("--long"),
-        shared: has("--shared"),
-        floats: has("--floats"),
-    })
-}
-
 fn make(words: Words) -> Result<bool, String> {
-    let plan = plan(&words)?;
+    let plan = Plan::new(words.number("--seed", 1)?, |flag| words.has(flag));
     let from = words.number("--from", 0)?;
     let count = words.number("--count", 1)?;
     let mut wrong = None;
@@ -242,9 +228,20 @@ fn has_large_floats(file: &[u8]) -> bool {
     judge(file).is_none() && rules::in_two_forms(file).iter().any(|bits| *bits > 53)
 }
 
+/// Whether 02, §9 says another thing of a file than refusal 2: its version is 2 and its mark is right.
+fn has_dialect(file: &[u8]) -> bool {
+    version(file) == Some(2) && judge(file).is_none_or(|(number, _)| number > 1)
+}
+
 fn lists(words: Words) -> Result<bool, String> {
     let (files, lists) = listed(&words)?;
-    let out = |file: &[u8]| words.has("--before-floats") && has_large_floats(file);
+    let (floats, dialect) = match words.text("--before") {
+        None => (false, false),
+        Some("dialect") => (false, true),
+        Some("floats") => (words.has("--strict"), true),
+        _ => return Err(USAGE.to_owned()),
+    };
+    let out = |file: &[u8]| floats && has_large_floats(file) || dialect && has_dialect(file);
     let kept = files.into_iter().zip(lists).filter(|(file, _)| !out(file));
     let (files, lists): (Vec<_>, Vec<_>) = kept.unzip();
     Ok(reported(with_lists(&words.sides()?, &files, &lists)))
@@ -277,7 +274,7 @@ fn record(words: Words) -> Result<bool, String> {
     let limits = Limits {
         seed: words.number("--seed", 7)?,
         count: words.number("--count", 20000)?,
-        bytes: words.number("--bytes", 446000)? as usize,
+        bytes: words.number("--bytes", 500000)? as usize,
     };
     print(recorded::write(&limits, Path::new(folder))?.as_bytes());
     Ok(true)

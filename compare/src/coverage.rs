@@ -34,6 +34,9 @@ fn loops(node: &Node) -> usize {
     node.children.iter().map(loops).max().unwrap_or(0) + usize::from(node.kind == 11)
 }
 
+/// Times that x = x is free: once as in version 1, then more.
+const TIMES: [usize; 6] = [1, 2, 3, 5, 10, 100];
+
 /// Bits of whole numbers: any, more than an i32 has, than 01's bound of 2^53, than a word, all of 64 bytes.
 const BITS: [usize; 5] = [0, 32, 54, 65, 512];
 
@@ -42,6 +45,13 @@ pub struct Coverage {
     files: usize,
     valid: usize,
     panics: usize,
+    versions: BTreeMap<u16, usize>,
+    /// By version: trees with a record of code 15.
+    duplicates: BTreeMap<u16, usize>,
+    /// By times: trees of version 2 where some x = x is free so often or more.
+    freed: BTreeMap<usize, usize>,
+    /// How often it is free there a second time or more.
+    free_again: usize,
     codes: BTreeMap<u32, usize>,
     reasons: BTreeMap<u32, usize>,
     /// By bits: trees with a number of so many or more that strict keys hold equal in its two forms.
@@ -78,20 +88,29 @@ impl Coverage {
         edges_of(&tree.root, &mut self.edges);
         *self.loops.entry(loops(&tree.root)).or_default() += 1;
         self.limits(&tree);
-        match records(bytes) {
-            None => self.panics += 1,
-            Some(passes) => {
-                let codes: BTreeSet<u32> = passes.concat().iter().map(|r| r[0]).collect();
-                codes.into_iter().for_each(|c| *self.codes.entry(c).or_default() += 1);
-            }
-        }
-        let [.., dubious] = rules::records(bytes, Mode::Ordinary);
-        let reasons: BTreeSet<u32> = dubious.iter().filter(|r| r[0] == 16).map(|r| r[6]).collect();
+        self.panics += usize::from(records(bytes).is_none());
+        let all = rules::records(bytes, Mode::Ordinary).concat();
+        let codes: BTreeSet<u32> = all.iter().map(|r| r[0]).collect();
+        *self.versions.entry(tree.version).or_default() += 1;
+        *self.duplicates.entry(tree.version).or_default() += usize::from(codes.contains(&15));
+        codes.into_iter().for_each(|c| *self.codes.entry(c).or_default() += 1);
+        let reasons: BTreeSet<u32> = all.iter().filter(|r| r[0] == 16).map(|r| r[6]).collect();
         reasons.into_iter().for_each(|c| *self.reasons.entry(c).or_default() += 1);
         let most = rules::in_two_forms(bytes).into_iter().max();
         let reached = BITS.into_iter().filter(|bits| most >= Some(*bits));
         reached.for_each(|c| *self.two_forms.entry(c).or_default() += 1);
         self.nodes(&rules::met(bytes));
+        if tree.version == 2 {
+            self.exports(rules::freed(bytes).values().map(Vec::len).collect());
+        }
+    }
+
+    /// Of each loaded name how often x = x is free.
+    fn exports(&mut self, freed: Vec<usize>) {
+        self.free_again += freed.iter().map(|times| times - 1).sum::<usize>();
+        let most = freed.into_iter().max();
+        let reached = TIMES.into_iter().filter(|times| most >= Some(*times));
+        reached.for_each(|c| *self.freed.entry(c).or_default() += 1);
     }
 
     fn nodes(&mut self, met: &[Met]) {
@@ -121,6 +140,11 @@ impl Coverage {
         let mut out = String::new();
         let mut line = |name: &str, text: String| writeln!(out, "{name}: {text}").unwrap();
         line("files", format!("{} ({} valid, the Rust panicked on {})", self.files, self.valid, self.panics));
+        line("trees by version", counted((1..=2).map(|c| (c, self.versions.get(&c)))));
+        line("trees with code 15 by version", counted((1..=2).map(|c| (c, self.duplicates.get(&c)))));
+        let freed = counted(TIMES.into_iter().map(|c| (c, self.freed.get(&c))));
+        line("trees of version 2 where x = x is free so often or more", freed);
+        line("how often it is free there a second time or more", self.free_again.to_string());
         line("trees by code", counted((1..=17).map(|c| (c, self.codes.get(&c)))));
         line("trees by reason of equal keys", counted((1..=2).map(|c| (c, self.reasons.get(&c)))));
         let two_forms = counted(BITS.into_iter().map(|c| (c, self.two_forms.get(&c))));

@@ -4,6 +4,9 @@ use crate::file::{File, Node, Value, NONE};
 use crate::random::Random;
 use crate::tree::Tree;
 
+/// None is valid; in some one byte is that of a version which is.
+const VERSIONS: [u16; 9] = [0, 3, 4, 256, 257, 258, 512, 513, 65535];
+
 pub fn damaged(tree: &Tree, r: &mut Random) -> Vec<u8> {
     let mut file = tree.file();
     let mut bytes = None;
@@ -11,7 +14,7 @@ pub fn damaged(tree: &Tree, r: &mut Random) -> Vec<u8> {
     for _ in 0..if r.percent(35) { 2 } else { 1 } {
         match r.weighted(&[2, 2, 4, 8, 22, 26, 28, 12]) {
             0 => file.mark[r.below(3)] ^= 1 << r.below(8),
-            1 => file.version = *r.pick(&[0, 2, 256, 257, 65535]),
+            1 => file.version = *r.pick(&VERSIONS),
             2 => counts(&mut file, r),
             3 => bytes = Some(sections(&mut file, r)),
             4 => values(&mut file, r),
@@ -32,9 +35,9 @@ pub fn damaged(tree: &Tree, r: &mut Random) -> Vec<u8> {
 }
 
 /// A chain one level too deep, or some.
-pub fn too_deep(r: &mut Random) -> Vec<u8> {
+pub fn too_deep(version: u16, r: &mut Random) -> Vec<u8> {
     let depth = if r.percent(60) { 49 } else { r.range(48, 90) };
-    crate::make::deep_tree(r, depth).bytes()
+    Tree { version, ..crate::make::deep_tree(r, depth) }.bytes()
 }
 
 fn counts(file: &mut File, r: &mut Random) {

@@ -1,9 +1,10 @@
 //! What a file shows, as numbers to be collected: the recorded list is chosen so
 //! that together its files show as much as possible.
+use crate::file::File;
 use crate::judge::refusal;
-use crate::listing::records;
-use crate::rules;
+use crate::rules::{self, Mode};
 use crate::tree::{Node, Tree};
+use originals::Record;
 use std::collections::{BTreeMap, BTreeSet};
 use std::hash::{DefaultHasher, Hash, Hasher};
 
@@ -12,11 +13,17 @@ pub type Features = BTreeMap<u64, (u32, u32)>;
 
 /// A case of the names rules may be met and not be seen in the list: several files.
 const CASE: (u32, u32) = (8, 4);
+/// A free x = x isn't seen in the list either.
+const FREE: (u32, u32) = (24, 3);
 
 fn add(out: &mut Features, weight: u32, feature: impl Hash) {
+    put(out, (weight, 1), feature);
+}
+
+fn put(out: &mut Features, wanted: (u32, u32), feature: impl Hash) {
     let mut hasher = DefaultHasher::new();
     feature.hash(&mut hasher);
-    out.insert(hasher.finish(), (weight, 1));
+    out.insert(hasher.finish(), wanted);
 }
 
 /// A construct that others stand in: kind, and the role of the child towards them.
@@ -90,6 +97,21 @@ fn loops(x: &Node) -> usize {
     x.children.iter().map(loops).max().unwrap_or(0) + usize::from(x.kind == 11)
 }
 
+/// By version: where x = x is free, how often it was before, whether it has a type; and what is warned of such names.
+fn exports(bytes: &[u8], all: &[Record], out: &mut Features) {
+    let (file, freed) = (File::read(bytes).expect("a valid file"), rules::freed(bytes));
+    let size = |i: usize| usize::from(file.nodes[i].size);
+    let around = |i: usize| (0..i).rev().find(|p| p + size(*p) > i).map(|p| file.nodes[p].kind);
+    for (before, i) in freed.values().flat_map(|nodes| nodes.iter().enumerate()) {
+        put(out, FREE, ("free", file.version, before.min(4), around(*i), size(*i) > 3));
+    }
+    for r in all.iter().filter(|r| r[0] == 15) {
+        let times = freed.get(&(r[3] as u16)).map_or(0, Vec::len);
+        let [first, later] = [r[9], r[8]].map(|i| around(i as usize));
+        add(out, 8, ("duplicate", file.version, first, later, times.min(3)));
+    }
+}
+
 pub fn features(file: &[u8]) -> Features {
     let mut out = Features::new();
     if let Some(r) = refusal(file) {
@@ -108,7 +130,7 @@ pub fn features(file: &[u8]) -> Features {
         return out;
     }
     let tree = Tree::read(file);
-    let all = records(file).map(|passes| passes.concat()).unwrap_or_default();
+    let all = rules::records(file, Mode::Ordinary).concat();
     let mut codes: BTreeMap<(u32, u32), BTreeSet<u32>> = BTreeMap::new();
     for r in &all {
         codes.entry((r[1], r[2])).or_default().insert(r[0]);
@@ -123,6 +145,7 @@ pub fn features(file: &[u8]) -> Features {
     for met in rules::met(file).into_iter().filter(|m| m.kinds.len() > 1) {
         add(&mut out, 8, ("met", met.code, met.kinds[0], met.kinds[met.at], met.at > 0));
     }
+    exports(file, &all, &mut out);
     Collector { out: &mut out, codes, last: BTreeMap::new() }.node(&tree.root, &[]);
     out
 }

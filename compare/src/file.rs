@@ -3,6 +3,11 @@
 
 pub const NONE: u16 = 65535;
 
+/// The version as written; nothing else is looked at.
+pub fn version(bytes: &[u8]) -> Option<u16> {
+    bytes.get(3..)?.first_chunk().copied().map(u16::from_le_bytes)
+}
+
 #[derive(Clone, Debug, PartialEq, Eq)]
 pub struct Node {
     pub kind: u8,

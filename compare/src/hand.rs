@@ -1,6 +1,7 @@
 //! Files made by hand, each with a name: document 01's known lists, its example,
 //! its easy errors, its limits, and the readings taken of it.
 mod build;
+mod dialect;
 mod floats;
 mod flow;
 mod language;
@@ -31,6 +32,7 @@ pub fn files() -> Vec<Made> {
     out.extend(flow::files());
     out.extend(others::files());
     out.extend(floats::files());
+    out.extend(dialect::files());
     out.extend(nodes::files());
     out.extend(language::files());
     out.extend(refusals::files());

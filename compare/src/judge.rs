@@ -1,5 +1,5 @@
-//! Validity of a tree file: document 01's refusals 1 to 9 with their places,
-//! written from 01 (and the readings taken of it) alone.
+//! Validity of a tree file: document 01's refusals 1 to 9 with their places, 2 as 02, §9
+//! has it, written from these (and the readings taken of them) alone.
 use crate::kinds::{self, Carries};
 
 /// Why a file isn't valid.
@@ -63,7 +63,7 @@ pub fn refusal(bytes: &[u8]) -> Option<Refusal> {
     if bytes.len() < 11 || &bytes[..3] != b"SLT" {
         return whole(1, "short or wrong mark");
     }
-    if u16_at(bytes, 3) != 1 {
+    if !matches!(u16_at(bytes, 3), 1 | 2) {
         return whole(2, "version");
     }
     let [nodes, values, globals] = [5, 7, 9].map(|i| usize::from(u16_at(bytes, i)));

@@ -1,4 +1,5 @@
 //! Document 01's listing, with the Rust behind it.
+use crate::file::version;
 use crate::judge::judge;
 use crate::rules::{self, Mode};
 use originals::Record;
@@ -69,7 +70,7 @@ impl Extent {
 
     /// Of a record what counts; any other line as it is.
     fn line(self, line: &str) -> String {
-        let Some(code) = line.split(' ').next().and_then(|n| n.parse().ok()) else { return line.to_owned() };
+        let Some(code) = code(line) else { return line.to_owned() };
         let numbers = line.split(' ').enumerate().filter(|(at, _)| self.counts(code, *at));
         numbers.map(|n| n.1).collect::<Vec<_>>().join(" ")
     }
@@ -80,12 +81,27 @@ impl Extent {
     }
 }
 
+fn code(line: &str) -> Option<u32> {
+    line.split(' ').next()?.parse().ok()
+}
+
+/// A listing without the records of a code, its total less by so many.
+fn without(left_out: u32, list: &str) -> String {
+    let (gone, kept): (Vec<&str>, _) = list.split('\n').partition(|line| code(line) == Some(left_out));
+    let less = |line: &&str| {
+        let total: i64 = line.strip_prefix("total ")?.parse().ok()?;
+        Some(format!("total {}", total - gone.len() as i64))
+    };
+    let kept: Vec<String> = kept.iter().map(|line| less(line).unwrap_or((*line).to_owned())).collect();
+    kept.join("\n")
+}
+
 /// Who says what the records of a valid file are.
 #[derive(Clone, Copy)]
 pub enum Source {
-    /// The four files, unchanged; strict keys and reasons are not theirs.
+    /// The four files, unchanged; strict keys, reasons and dialect 2 are not theirs.
     Rust,
-    /// Document 01 as rules.rs reads it, with the reasons and the nodes of 02.
+    /// Document 01 as rules.rs reads it, with the reasons, the nodes and the dialect of 02.
     Rules(Mode),
 }
 
@@ -94,6 +110,14 @@ impl Source {
         match self {
             Source::Rust => records(bytes),
             Source::Rules(mode) => Some(rules::records(bytes, mode)),
+        }
+    }
+
+    /// Of a file's list what it has a word on: "Demand 2 compares version 2 with the Rust in all but code 15".
+    pub fn part_of(self, file: &[u8], list: &str) -> String {
+        match (self, version(file)) {
+            (Source::Rust, Some(2)) => without(15, list),
+            _ => list.to_owned(),
         }
     }
 

@@ -1,4 +1,5 @@
 //! The generator: seed and index in, a tree file out.
+mod dialect;
 mod expressions;
 mod limits;
 mod literals;
@@ -26,17 +27,24 @@ pub struct Plan {
     pub shared: bool,
     /// Keys are mostly whole floats of every size and their integers.
     pub floats: bool,
+    /// Of either version, with loaded names that are exported again and again.
+    pub dialect: bool,
 }
 
 impl Plan {
+    pub const FLAGS: [&'static str; 6] =
+        ["--any-order", "--damage", "--long", "--shared", "--floats", "--dialect"];
+
+    pub fn new(seed: u64, has: impl Fn(&str) -> bool) -> Plan {
+        let [any_order, damage, long, shared, floats, dialect] = Plan::FLAGS.map(has);
+        Plan { seed, any_order, damage, long, shared, floats, dialect }
+    }
+
     /// As it stands in recorded.txt, to be given to `compare make`.
     pub fn words(&self, index: u64) -> String {
-        let order = if self.any_order { " --any-order" } else { "" };
-        let damage = if self.damage { " --damage" } else { "" };
-        let long = if self.long { " --long" } else { "" };
-        let shared = if self.shared { " --shared" } else { "" };
-        let floats = if self.floats { " --floats" } else { "" };
-        format!("--seed {} --from {index} --count 1{order}{damage}{long}{shared}{floats}", self.seed)
+        let asked = [self.any_order, self.damage, self.long, self.shared, self.floats, self.dialect];
+        let flags = Plan::FLAGS.iter().zip(asked).filter(|f| f.1).map(|f| format!(" {}", f.0));
+        format!("--seed {} --from {index} --count 1{}", self.seed, flags.collect::<String>())
     }
 
     pub fn file(&self, index: u64) -> Vec<u8> {
@@ -44,7 +52,7 @@ impl Plan {
         if self.damage {
             let (tree, deep) = (self.tree(&mut r), r.percent(12));
             return if deep {
-                crate::damage::too_deep(&mut r)
+                crate::damage::too_deep(tree.version, &mut r)
             } else {
                 crate::damage::damaged(&tree, &mut r)
             };
@@ -52,9 +60,17 @@ impl Plan {
         self.tree(&mut r).bytes()
     }
 
+    fn style(&self, r: &mut Random) -> Style {
+        let style = if self.floats { Style::floats(r) } else { Style::any(r) };
+        if self.dialect {
+            style.dialect(r)
+        } else {
+            style
+        }
+    }
+
     fn tree(&self, r: &mut Random) -> Tree {
-        let style = if self.floats { Style::floats } else { Style::any };
-        let mut tree = if r.percent(2) { limits::tree(style(r), r) } else { free(style(r), r) };
+        let mut tree = if r.percent(2) { limits::tree(self.style(r), r) } else { free(self.style(r), r) };
         if self.any_order {
             order::shuffle(&mut tree.root, r);
         }
@@ -64,6 +80,9 @@ impl Plan {
         }
         if self.long {
             limits::lengthen(&mut tree);
+        }
+        if self.dialect {
+            tree.version = dialect::version(r);
         }
         tree
     }
@@ -149,6 +168,8 @@ fn free(style: Style, r: &mut Random) -> Tree {
         46..=48 => r.range(120, 500),
         _ => r.range(500, 1024),
     };
+    // A load and some exports at least.
+    let nodes = if style.dialect { nodes.max(r.range(8, 60)) } else { nodes };
     let levels = if r.percent(80) { r.range(3, 20) } else { 48 };
     let mut maker = Maker { r, style };
     let room = Room { nodes, levels, in_loop: false, in_def: false };

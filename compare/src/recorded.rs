@@ -54,7 +54,7 @@ impl Seen {
 
 /// Bytes in the three files together.
 fn cost(made: &Made) -> usize {
-    made.file.len() + 4 + Rust.answer(&made.file, None).len() + 3 + made.how.len() + 8
+    made.file.len() + 4 + Rules(Mode::Ordinary).answer(&made.file, None).len() + 3 + made.how.len() + 8
 }
 
 fn generated(plan: Plan, count: u64) -> Vec<Candidate> {
@@ -101,19 +101,25 @@ fn choose(limits: &Limits) -> Vec<Made> {
     // Refused files are short; a fifth of the room is plenty for them.
     let mut part = room / 5;
     room -= part;
-    chosen(generated(Plan { damage: true, ..plan }, limits.count), &mut seen, &mut part, &mut out);
+    let mut damaged = Vec::new();
+    for dialect in [false, true] {
+        damaged.extend(generated(Plan { damage: true, dialect, ..plan }, limits.count));
+    }
+    chosen(damaged, &mut seen, &mut part, &mut out);
     let mut trees = Vec::new();
     for (any_order, shared) in [(false, false), (true, false), (false, true), (true, true)] {
-        trees.extend(generated(Plan { any_order, shared, ..plan }, limits.count));
+        for dialect in [false, true] {
+            trees.extend(generated(Plan { any_order, shared, dialect, ..plan }, limits.count));
+        }
     }
     chosen(trees, &mut seen, &mut room, &mut out);
     out
 }
 
-/// The Rust's list with the reasons that it doesn't have, by the rules, which must agree on all else.
+/// The Rust's list with what it doesn't have by the rules, which must agree on all else.
 fn whole_list(made: &Made) -> Result<String, String> {
     let [rust, rules] = [Rust, Rules(Mode::Ordinary)].map(|source| source.answer(&made.file, None));
-    if !Side::RUST.agrees(&rust, &rules) {
+    if !Side::RUST.agrees(&made.file, &rust, &rules) {
         return Err(format!("{}: the Rust and document 01's rules differ:\n{rust}and\n{rules}", made.how));
     }
     Ok(rules + "--\n")

@@ -1,6 +1,6 @@
 //! Document 01's rules as 01 words them, and the only opinion here on strict keys, on
-//! why two keys are equal (02, §11) and on the node that a names record has (02, §4). Its
-//! author had read the Rust, so it is a second wording and not a blind one.
+//! why two keys are equal (02, §11), on the node that a names record has (02, §4) and on code 15
+//! in version 2 (02, §9). Its author had read the Rust, so it is a second wording and not a blind one.
 mod flow;
 mod keys;
 mod names;
@@ -9,7 +9,7 @@ mod view;
 
 pub use keys::Mode;
 use originals::Record;
-use std::collections::BTreeSet;
+use std::collections::{BTreeMap, BTreeSet};
 use view::View;
 
 /// The records of the four passes over a valid file.
@@ -40,6 +40,11 @@ pub fn met(bytes: &[u8]) -> Vec<Met> {
 /// The bits of each number that strict keys hold equal in its two forms, in a valid file.
 pub fn in_two_forms(bytes: &[u8]) -> Vec<usize> {
     keys::in_two_forms(&View::new(bytes))
+}
+
+/// The statements x = x that are free in a valid file, by the number of their name.
+pub fn freed(bytes: &[u8]) -> BTreeMap<u16, Vec<usize>> {
+    top::freed(&View::new(bytes))
 }
 
 /// Which cases of the names rules a valid file comes to, as numbers.

@@ -27,8 +27,8 @@ pub fn show(bytes: &[u8]) -> String {
     let Some(file) = File::read(bytes) else {
         return out + ", the sections don't fill them\n";
     };
-    let [nodes, values, globals] = file.counts;
-    writeln!(out, ", {nodes} nodes, {values} values, globals {globals}").unwrap();
+    let (version, [nodes, values, globals]) = (file.version, file.counts);
+    writeln!(out, ", version {version}, {nodes} nodes, {values} values, globals {globals}").unwrap();
     // Ends of the nodes that are still open: their count is the depth.
     let mut open: Vec<usize> = Vec::new();
     for (i, x) in file.nodes.iter().enumerate() {

@@ -16,6 +16,7 @@ pub struct Node {
 
 #[derive(Clone, Debug, PartialEq, Eq)]
 pub struct Tree {
+    pub version: u16,
     pub root: Node,
     /// Values that no node carries.
     pub spare: Vec<Value>,
@@ -81,7 +82,7 @@ impl Node {
 
 impl Tree {
     pub fn new(root: Node) -> Tree {
-        Tree { root, spare: Vec::new(), globals: None }
+        Tree { version: 1, root, spare: Vec::new(), globals: None }
     }
 
     /// Every value of the file, in order.
@@ -118,7 +119,7 @@ impl Tree {
             values.into_iter().map(|(kind, bytes)| file::Value { kind, length: bytes.len() as u16, bytes });
         let mut file = File {
             mark: *b"SLT",
-            version: 1,
+            version: self.version,
             counts: [0, 0, given],
             nodes,
             values: values.collect(),
@@ -153,6 +154,7 @@ impl Tree {
         let root = node(&file, 0, &value);
         let spare = (0..file.counts[1]).map(value).collect();
         let globals = file.globals.iter().map(|g| value(*g).1).collect();
-        Tree { root, spare, globals: (file.counts[2] != NONE).then_some(globals) }
+        let globals = (file.counts[2] != NONE).then_some(globals);
+        Tree { version: file.version, root, spare, globals }
     }
 }

@@ -1,4 +1,5 @@
-/* lengths: tries what include/yudronkha.h says of lengths, on one tree and a few codes, with words behind each room that must stay.
+/* lengths: tries what include/yudronkha.h says of lengths, of a tree's version, on one tree each, and of a few codes, with words
+ * behind each room that must stay.
  * Prints a line for each call that answers otherwise. Exit status: 0 none does, 1 one does, 2 header and library differ. */
 #include <stdio.h>
 #include <string.h>
@@ -161,6 +162,49 @@ static int log_kept(int strict)
     return number == YUDRONKHA_LISTED && log_bytes[strict] < OUTPUT && logs[strict][0] == '{' && logs[strict][log_bytes[strict] - 1] == '\n';
 }
 
+/* load x, x = x, x = x, its version at byte 3: in version 1 the last line is a record of code 15, in version 2 nothing is. */
+static const uint8_t loaded[] = {
+    'S', 'L', 'T', 0, 0, 9, 0, 1, 0, 255, 255,
+    8, 0, 9, 0, 0, 0, 0, 0, 27, 0, 0, 0, 255, 255, 0, 0,
+    13, 0, 2, 0, 0, 0, 0, 0, 14, 0, 0, 0, 255, 255, 0, 0,
+    47, 0, 1, 0, 10, 0, 0, 0, 13, 0, 0, 0, 0, 0, 0, 0,
+    6, 0, 3, 0, 15, 0, 0, 0, 20, 0, 0, 0, 255, 255, 0, 0,
+    40, 5, 1, 0, 15, 0, 0, 0, 16, 0, 0, 0, 0, 0, 0, 0,
+    20, 4, 1, 0, 19, 0, 0, 0, 20, 0, 0, 0, 0, 0, 0, 0,
+    6, 0, 3, 0, 21, 0, 0, 0, 26, 0, 0, 0, 255, 255, 0, 0,
+    40, 5, 1, 0, 21, 0, 0, 0, 22, 0, 0, 0, 0, 0, 0, 0,
+    20, 4, 1, 0, 25, 0, 0, 0, 26, 0, 0, 0, 0, 0, 0, 0,
+    0, 1, 0, 'x',
+};
+
+/* A version, and what a call answers. */
+static const struct version {
+    uint16_t version;
+    size_t number, records;
+} versions[] = {
+    {0, YUDRONKHA_REFUSED_VERSION, 0},
+    {1, YUDRONKHA_LISTED, 1},
+    {2, YUDRONKHA_LISTED, 0},
+    {3, YUDRONKHA_REFUSED_VERSION, 0},
+    {258, YUDRONKHA_REFUSED_VERSION, 0},
+    {65535, YUDRONKHA_REFUSED_VERSION, 0},
+};
+
+static int version_taken(const struct version *v)
+{
+    uint8_t bytes[sizeof loaded];
+    memcpy(bytes, loaded, sizeof loaded);
+    bytes[3] = v->version & 255;
+    bytes[4] = v->version >> 8;
+    fill();
+    size_t number = yudronkha_lint(bytes, sizeof bytes, work, WORK, answer, ANSWER, report, REPORT);
+    if (number != v->number || report[0] != v->records || report[YUDRONKHA_DUPLICATE_TOP_LEVEL_ASSIGN] != v->records)
+        return 0;
+    return v->records == 0 ? answer[0] == PATTERN
+                           : answer[YUDRONKHA_CODE] == YUDRONKHA_DUPLICATE_TOP_LEVEL_ASSIGN && answer[YUDRONKHA_NODE] == 7 &&
+                                 answer[YUDRONKHA_SECOND_NODE] == 2;
+}
+
 /* A code, and its name and severity; what is no code has no name. */
 static const struct code {
     size_t code;
@@ -210,6 +254,11 @@ int main(void)
             status = 1;
         }
     }
+    for (size_t i = 0; i < COUNT(versions); i++)
+        if (!version_taken(&versions[i])) {
+            printf("a tree of version %u: not as the header says\n", versions[i].version);
+            status = 1;
+        }
     for (size_t i = 0; i < COUNT(codes); i++)
         if (!named(&codes[i])) {
             printf("code %zu: severity or name is not as the header says\n", codes[i].code);

@@ -10,7 +10,7 @@ use std::process::ExitCode;
 
 /// include/yudronkha.h; nothing but the version compares this declaration with it.
 mod yudronkha {
-    pub const VERSION: usize = 30001;
+    pub const VERSION: usize = 30100;
     pub const TREE_BYTES_MOST: usize = 149_515;
     pub const WORK_WORDS: usize = 32_768;
     pub const RECORD_WORDS: usize = 10;

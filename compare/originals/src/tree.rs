@@ -54,7 +54,8 @@ impl<'a> Reader<'a> {
 impl Tree {
     pub fn read(bytes: &[u8]) -> Tree {
         let mut r = Reader(bytes);
-        assert!(r.take(3) == b"SLT" && r.u16() == 1);
+        // Both versions have one layout; the Rust has no dialects.
+        assert!(r.take(3) == b"SLT" && matches!(r.u16(), 1 | 2));
         let (n, v, g) = (r.u16(), r.u16(), r.u16());
         let nodes = (0..n)
             .map(|at| {

@@ -10,15 +10,15 @@ pub fn files() -> Vec<Made> {
     out
 }
 
-fn top() -> Vec<Made> {
+pub fn top() -> Vec<Made> {
     let same = || set("x", id("x"));
     vec![
         made(
-            "x = x under if and for, once free",
+            "x = x under if and for",
             list(vec![load(&["x"]), when(id("c"), vec![same()]), each("i", id("xs"), vec![same()])]),
         ),
         made(
-            "x = x with a type is free",
+            "x = x with a type, then without",
             list(vec![load(&["x"]), assign_typed(name("x"), id("T"), id("x")), same()]),
         ),
         made("x = x, first defined by an assign", list(vec![set("x", int(1)), load(&["x"]), same()])),
@@ -27,7 +27,7 @@ fn top() -> Vec<Made> {
             list(vec![load(&["x"]), assign(several(vec![name("x")]), id("x")), same()]),
         ),
         made(
-            "free once for each name",
+            "x = x of two names, twice",
             list(vec![load(&["x", "y"]), same(), set("y", id("y")), same(), set("y", id("y"))]),
         ),
         made(

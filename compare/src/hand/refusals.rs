@@ -4,13 +4,14 @@ use super::Made;
 use crate::file::{File, NONE};
 use crate::tree::Tree;
 
+/// A small tree with a change.
+pub fn damaged(how: &str, change: &dyn Fn(&mut File)) -> Made {
+    let mut file = spanned(Tree::new(list(vec![set("x", int(1)), use_of("x")]))).file();
+    change(&mut file);
+    Made { how: format!("refusal: {how}"), file: file.bytes() }
+}
+
 pub fn files() -> Vec<Made> {
-    let plain = || spanned(Tree::new(list(vec![set("x", int(1)), use_of("x")]))).file();
-    let damaged = |how: &str, change: &dyn Fn(&mut File)| {
-        let mut file = plain();
-        change(&mut file);
-        Made { how: format!("refusal: {how}"), file: file.bytes() }
-    };
     let outside = |sizes: [u16; 4]| {
         let mut file = Tree::new(list(vec![])).file();
         file.nodes = sizes.map(|size| crate::file::Node { size, ..file.nodes[0].clone() }).to_vec();
@@ -23,8 +24,6 @@ pub fn files() -> Vec<Made> {
         outside([2, 2, 1, 1]),
         outside([4, 3, 3, 1]),
         damaged("mark in small letters", &|f| f.mark = *b"slt"),
-        damaged("version 2", &|f| f.version = 2),
-        damaged("version 257", &|f| f.version = 257),
         damaged("a length one too great", &|f| f.values[0].length += 1),
         damaged("one value too many in the head", &|f| f.counts[1] += 1),
         damaged("globals in the head, none behind", &|f| f.counts[2] = 1),

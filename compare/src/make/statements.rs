@@ -14,7 +14,7 @@ impl Maker<'_> {
             return self.tower(self.style.nest, Room { nodes, levels: 48, ..room });
         }
         if self.r.percent(92) {
-            self.list(room)
+            self.exporting(room)
         } else {
             self.statement(room)
         }
@@ -97,6 +97,9 @@ impl Maker<'_> {
     }
 
     pub fn statement(&mut self, room: Room) -> Node {
+        if self.exports(room) {
+            return self.export(room);
+        }
         let mut weights = self.style.statements;
         for (weight, (nodes, levels)) in weights.iter_mut().zip(NEEDS) {
             if room.nodes < nodes || room.levels < levels {
@@ -159,12 +162,7 @@ impl Maker<'_> {
 
     fn assign(&mut self, room: Room) -> Vec<Node> {
         if self.r.percent(12) {
-            let name = self.name();
-            let mut out = vec![Node::with(40, 5, (0, name.clone())), Node::with(20, 4, (0, name))];
-            if room.nodes > 3 && self.r.percent(25) {
-                out.insert(1, self.expression(room.below(1)).role(3));
-            }
-            return out;
+            return self.same(room);
         }
         let typed = usize::from(room.nodes > 3 && self.r.percent(25));
         let n = self.shares(room.nodes - 1, &[1, typed, 1]);
@@ -173,6 +171,16 @@ impl Maker<'_> {
             out.push(self.expression(room.below(n[1])).role(3));
         }
         out.push(self.expression(room.below(n[2])).role(4));
+        out
+    }
+
+    /// x = x, now and then with a type.
+    pub fn same(&mut self, room: Room) -> Vec<Node> {
+        let name = self.name();
+        let mut out = vec![Node::with(40, 5, (0, name.clone())), Node::with(20, 4, (0, name))];
+        if room.nodes > 3 && self.r.percent(25) {
+            out.insert(1, self.expression(room.below(1)).role(3));
+        }
         out
     }
 
@@ -214,7 +222,7 @@ impl Maker<'_> {
         })
     }
 
-    fn loaded(&mut self, room: Room) -> Vec<Node> {
+    pub fn loaded(&mut self, room: Room) -> Vec<Node> {
         let most = if room.levels < 2 { 0 } else { room.nodes - 1 };
         let most = most.min(self.r.range(0, 4));
         (0..most).map(|_| Node::with(47, 0, (0, self.name()))).collect()

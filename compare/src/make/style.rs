@@ -15,6 +15,8 @@ pub struct Style {
     pub nest: usize,
     /// Literals are mostly numbers, of every size.
     pub floats: bool,
+    /// Statements mostly load names and assign them to themselves.
+    pub dialect: bool,
 }
 
 const MIXED: [usize; 13] = [2, 2, 2, 4, 14, 14, 6, 2, 8, 8, 6, 6, 2];
@@ -22,6 +24,7 @@ const LOOPS: [usize; 13] = [5, 5, 1, 2, 10, 12, 5, 1, 6, 6, 14, 4, 0];
 const BRANCHES: [usize; 13] = [4, 3, 2, 6, 9, 14, 4, 2, 14, 18, 4, 2, 0];
 const DEFS: [usize; 13] = [1, 1, 1, 14, 10, 6, 2, 2, 8, 9, 3, 18, 0];
 const TOP: [usize; 13] = [0, 0, 1, 1, 6, 22, 9, 3, 5, 4, 4, 6, 14];
+const EXPORTS: [usize; 13] = [1, 1, 1, 1, 4, 8, 4, 5, 14, 14, 12, 5, 4];
 const FLAT: [usize; 13] = [0, 0, 1, 2, 40, 14, 6, 1, 2, 2, 2, 3, 1];
 
 const PLAIN: [usize; 14] = [24, 8, 1, 8, 3, 3, 2, 3, 3, 3, 3, 1, 1, 4];
@@ -70,7 +73,8 @@ impl Style {
             _ => (MIXED, PLAIN),
         };
         let nest = if r.percent(6) { r.range(4, 9) } else { 0 };
-        Style { statements, expressions, names: names(r), loose: r.percent(30), nest, floats: false }
+        let (names, loose) = (names(r), r.percent(30));
+        Style { statements, expressions, names, loose, nest, floats: false, dialect: false }
     }
 
     /// Mostly dicts, their keys mostly numbers.
@@ -80,6 +84,16 @@ impl Style {
             return style;
         }
         Style { statements: FLAT, expressions: KEYS, nest: 0, ..style }
+    }
+
+    /// With exports, mostly few names and much that statements stand under.
+    pub fn dialect(self, r: &mut Random) -> Style {
+        let mut style = Style { dialect: true, ..self };
+        if r.percent(75) {
+            style.names.truncate(4);
+            style.statements = EXPORTS;
+        }
+        style
     }
 }
 

@@ -27,6 +27,10 @@ impl View {
         View { file, globals }
     }
 
+    pub fn version(&self) -> u16 {
+        self.file.version
+    }
+
     /// A record at a node, its second span another node's: 01's eight numbers, then both nodes (02, §4).
     pub fn record(&self, code: u32, at: usize, value: u16, second: Option<usize>, third: Span) -> Record {
         let ((begin, end), (begin2, end2)) = (self.span(at), second.map_or(NO_SPAN, |i| self.span(i)));

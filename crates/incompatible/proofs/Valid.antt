@@ -1,25 +1,24 @@
 -- In a valid file the numbers of the names give the list of 01. Assumes nothing.
 use Prim.Native.Nat.{ℕ, _≤_, _<_}
 use native.Mathlib.Omega.{arith}
-use mathlib.Core.Path.{_≡_, refl, sym, ap, ap₂, _∙_}
+use mathlib.Core.Path.{_≡_, refl, ap, ap₂}
 use mathlib.Core.List.{List, [], _∷_, _++_}
 use mathlib.Core.Bool.{Bool, true, false, _&&_, _||_}
 use lib.Dec.{eqb}
 use lib.ListN.{length, getD}
-use Rattle.tree.specs.Bytes.{nodeCount, valueCount, kindAt}
+use Rattle.tree.specs.Bytes.{versionOf, nodeCount}
 use Rattle.tree.specs.Forest.{Head, Forest, none, node, forestOf, treeOf}
 use Rattle.tree.specs.Judge.{judged}
-use Rattle.tree.specs.code.Sound.{Sound}
 use Rattle.tree.specs.Table.{tableOf, spells}
 use Rattle.tree.specs.declared.Facts.{Facts}
 use Rattle.tree.specs.declared.Judged.the-variants.{Valid}
 use Rattle.tree.proofs.Fields.{Small, small-none, small-node, part-small}
-use Rattle.tree.proofs.Whole.{sound, whole, whole-part}
+use Rattle.tree.proofs.Whole.{sound, whole-part}
 use Rattle.tree.proofs.Entries.{names-fit, value-among-names}
 use Rattle.tree.proofs.ValidTable.{spells-number}
 use Rattle.rules.specs.Record.{Rec, listed, valued-at}
 use Rattle.rules.specs.Visit.{head-at, spot-at, each, kind-at, under, how-many}
-use Rattle.rules.specs.Incompatible.{identifier, type-check, check-at, deeds, repeated, once, incompatible, incompatible-list, type-name, five-types, spells-one}
+use Rattle.rules.specs.Incompatible.{identifier, check-at, deeds, repeated, allowance, incompatible, incompatible-list, type-name, five-types, spells-one}
 use Rattle.rules.proofs.Few.{incompatible-list-few}
 use Rattle.answer.proofs.Whole.{few-nodes}
 use Rattle.incompatible.specs.declared.types.Types.{Types}
@@ -77,12 +76,12 @@ module _ (t : List ℕ) (f : Facts) (valid : judged t ≡ Valid f) where
     call-same v h = rw (numbers .call) (spells-number t f valid type-name v h)
 
     -- what the walks list is the list of 01
-    pub list-is : incompatible-list t ≡ incompatible once (is (names .call)) (five names) (forestOf t 0 (f .nodes))
+    pub list-is : incompatible-list t ≡ incompatible (allowance (f .version)) (is (names .call)) (five names) (forestOf t 0 (f .nodes))
     unfolding incompatible-list treeOf
     list-is =
         let s = sound t f valid in
-        rw (s .nodes)
-        (ap (λ (l : List Rec). l ++ repeated once (deeds (forestOf t 0 (nodeCount t))) [] [])
+        rw (s .nodes, s .version)
+        (ap (λ (l : List Rec). l ++ repeated (allowance (versionOf t)) (deeds (forestOf t 0 (nodeCount t))) [] [])
         (each-same (spells (tableOf t) type-name) (is (names .call)) (spells-one (tableOf t) five-types) (five names) call-same five-same
         (forestOf t 0 (nodeCount t)) (part-small t bytes (whole-part t f s))))
 

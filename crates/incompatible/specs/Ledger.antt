@@ -4,22 +4,24 @@ use Prim.Native.Nat.{ℕ, zero, suc, _+_}
 use mathlib.Core.Path.{_≡_}
 use mathlib.Core.List.{List, [], _∷_, _++_}
 use mathlib.Core.Option.{Option, none, some}
-use mathlib.Core.Bool.{Bool, true, false, cond, _&&_}
+use mathlib.Core.Bool.{Bool, true, false, _&&_, _||_}
 use lib.Dec.{eqb}
 use lib.ListN.{getD}
-use Rattle.tree.specs.Bytes.{kindAt, sizeAt, pick}
+use Rattle.tree.specs.Bytes.{kindAt}
 use Rattle.tree.specs.Forest.{Head, Forest, headAt}
 use Rattle.rules.specs.Record.{Rec, listed}
 use Rattle.rules.specs.Visit.{look}
 use Rattle.rules.specs.Order.{bind-of}
-use Rattle.rules.specs.Incompatible.{Deed, defines, repeats, First, again, once, may-repeat, defined-names, deed-part, Top, holding, assigning, modifying, defining, loading, aside, tops, top-part}
+use Rattle.rules.specs.Incompatible.{Deed, defines, repeats, First, again, may-repeat, defined-names, deed-part, Top, holding, assigning, modifying, defining, loading, aside, tops, top-part}
+use Rattle.rules.specs.declared.Allowance.{Allowance}
 use Rattle.answer.specs.Page.{writes, page}
 use Rattle.incompatible.specs.declared.assigns.Defined.{Defined}
 
--- what is known of each name: how it was first defined, how often x = x was free
+-- how often x = x is free, and what is known of each name: how it was first defined, whether x = x was free already
 pub record Ledger : Type 0 where
+  pub allowed : Allowance
   pub first : ℕ → Option First
-  pub spent : ℕ → ℕ
+  pub spent : ℕ → Bool
 
 -- ---- a deed: what it has told, and what is known after it
 
@@ -28,14 +30,14 @@ told-by none h = []
 told-by (some d) h = again (d .head) h ∷ []
 
 abbrev pub ledger-by : Option First → Bool → Head → Ledger → Ledger
-ledger-by none l h k = record { first = λ x. elim (eqb x (h .spot .value)) [ true ↦ some (record { head = h; loaded = l }) | false ↦ k .first x ]; spent = k .spent }
+ledger-by none l h k = record { allowed = k .allowed; first = λ x. elim (eqb x (h .spot .value)) [ true ↦ some (record { head = h; loaded = l }) | false ↦ k .first x ]; spent = k .spent }
 ledger-by (some d) l h k = k
 
 abbrev pub free-now : Ledger → ℕ → Bool
-free-now k v = may-repeat once (k .first v) (k .spent v)
+free-now k v = may-repeat (k .allowed) (k .first v) (k .spent v)
 
 abbrev pub spend : Ledger → ℕ → Ledger
-spend k v = record { first = k .first; spent = λ x. elim (eqb x v) [ true ↦ suc (k .spent x) | false ↦ k .spent x ] }
+spend k v = record { allowed = k .allowed; first = k .first; spent = λ x. eqb x v || k .spent x }
 
 abbrev pub told : Deed → Ledger → List Rec
 told (defines l h) k = told-by (k .first (h .spot .value)) h
@@ -63,8 +65,9 @@ first-by t (suc i) = some (record { head = headAt t i; loaded = eqb (kindAt t i)
 abbrev pub ledger : List ℕ → Defined → Ledger
 ledger t d =
     record {
+      allowed = d .allowed;
       first = λ v. first-by t (getD (d .first) v 0);
-      spent = λ v. cond (getD (d .exported) v false) 1 0;
+      spent = λ v. getD (d .exported) v false;
     }
 
 -- ---- the deeds of one node

@@ -8,7 +8,7 @@ ghost use lib.ListN.{getD, set, replicate};
 ghost use Rattle.tree.specs.Bytes.{kindAt, sizeAt, valueAt, pick};
 ghost use Rattle.tree.specs.Forest.{headAt, forestOf};
 ghost use Rattle.tree.specs.code.Part.{Part, Subtree};
-ghost use Rattle.rules.specs.Incompatible.{again, once, repeated, defined-names, deeds, self-set, repeats, defines};
+ghost use Rattle.rules.specs.Incompatible.{again, repeated, defined-names, deeds, self-set, repeats, defines};
 ghost use Rattle.answer.specs.Page.{write, writes, page};
 ghost use Rattle.incompatible.specs.Ground.{Low};
 ghost use Rattle.incompatible.specs.Ledger.{ledger, free-now, named-one, below-one, is-several, goes-in, top-of, deeds-one, top-assign, Does};
@@ -16,6 +16,7 @@ use answer::Note;
 use answer::Place;
 use answer::Sheet;
 use answer::put;
+use rules::Allowance;
 use tree::bytes::kind_at;
 use tree::bytes::role_at;
 use tree::bytes::size_at;
@@ -23,11 +24,13 @@ use tree::bytes::value_at;
 use tree::bytes::widen;
 use tree::children::child_of;
 
-// By value number: the node after the one that first defined the name (0: none), and whether x = x was already free.
+// By value number: the node after the one that first defined the name (0: none), and whether x = x was already free; and how often it
+// is free, last, since the pass is slower with it before the tables (docs/SPEED.md).
 pub(crate) struct Defined {
     first: [u16; 512],
     exported: [bool; 512],
     sheet: Sheet,
+    allowed: Allowance,
 }
 
 fn first_of(first: &[u16], v: usize) -> usize
@@ -50,8 +53,9 @@ fn is_exported(exported: &[bool], v: usize) -> bool
 
 fn define(d: Defined, v: usize, i: usize) -> Defined
     requires { ⌜ (v < 512) × (i < 1024) ⌝ }
-    ensures { λ r. ⌜ (r .first ≡ set (d .first) v (i + 1)) × (r .exported ≡ d .exported) × (r .sheet ≡ d .sheet) ⌝ }
+    ensures { λ r. ⌜ (r .first ≡ set (d .first) v (i + 1)) × (r .exported ≡ d .exported) × (r .sheet ≡ d .sheet) × (r .allowed ≡ d .allowed) ⌝ }
 {
+    let allowed = d.allowed;
     let mut first = d.first;
     let exported = d.exported;
     let sheet = d.sheet;
@@ -60,13 +64,15 @@ fn define(d: Defined, v: usize, i: usize) -> Defined
         first,
         exported,
         sheet,
+        allowed,
     }
 }
 
 fn export(d: Defined, v: usize) -> Defined
     requires { ⌜ v < 512 ⌝ }
-    ensures { λ r. ⌜ (r .first ≡ d .first) × (r .exported ≡ set (d .exported) v true) × (r .sheet ≡ d .sheet) ⌝ }
+    ensures { λ r. ⌜ (r .first ≡ d .first) × (r .exported ≡ set (d .exported) v true) × (r .sheet ≡ d .sheet) × (r .allowed ≡ d .allowed) ⌝ }
 {
+    let allowed = d.allowed;
     let first = d.first;
     let mut exported = d.exported;
     let sheet = d.sheet;
@@ -75,6 +81,7 @@ fn export(d: Defined, v: usize) -> Defined
         first,
         exported,
         sheet,
+        allowed,
     }
 }
 
@@ -101,6 +108,7 @@ fn ident(t: &[u8], i: usize, out: &mut [u32], d: Defined) -> Defined
     ensures { λ r. ⌜ Does (now (t .entry)) (now (out .entry)) d (defines (eqb (kindAt (now (t .entry)) i) 47) (headAt (now (t .entry)) i) ∷ []) (now (out .exit)) r ⌝ }
 {
     let v = value_at(t, i);
+    let allowed = d.allowed;
     let first = d.first;
     let exported = d.exported;
     let sheet = d.sheet;
@@ -113,13 +121,15 @@ fn ident(t: &[u8], i: usize, out: &mut [u32], d: Defined) -> Defined
         first,
         exported,
         sheet: r,
+        allowed,
     }
 }
 
-// x = x is free where the first definition of x is a load, once.
+// x = x is free where the first definition of x is a load, as often as is allowed.
 fn may_repeat(t: &[u8], d: Defined, v: usize) -> bool
     ensures { λ r. ⌜ r ≡ free-now (ledger (now (t .entry)) d) v ⌝ }
 {
+    let allowed = d.allowed;
     let first = d.first;
     let exported = d.exported;
     let old = first_of(&first, v);
@@ -129,10 +139,7 @@ fn may_repeat(t: &[u8], d: Defined, v: usize) -> bool
     if kind_at(t, old - 1) != 47 {
         return false;
     }
-    if is_exported(&exported, v) {
-        return false;
-    }
-    true
+    allowed.free(is_exported(&exported, v))
 }
 
 fn binds(k: usize) -> bool
@@ -313,8 +320,8 @@ fn stmts(t: &[u8], n: usize, out: &mut [u32], d: Defined) -> Defined
     r
 }
 
-fn undefined(s: Sheet) -> Defined
-    ensures { λ r. ⌜ (r .first ≡ replicate 512 0) × (r .exported ≡ replicate 512 false) × (r .sheet ≡ s) ⌝ }
+fn undefined(allowed: Allowance, s: Sheet) -> Defined
+    ensures { λ r. ⌜ (r .first ≡ replicate 512 0) × (r .exported ≡ replicate 512 false) × (r .sheet ≡ s) × (r .allowed ≡ allowed) ⌝ }
 {
     let first = [0u16; 512];
     let exported = [false; 512];
@@ -322,13 +329,20 @@ fn undefined(s: Sheet) -> Defined
         first,
         exported,
         sheet: s,
+        allowed,
     }
 }
 
-pub(crate) fn duplicate_top_level_assignment(t: &[u8], n: usize, out: &mut [u32], s: Sheet) -> Sheet
+pub(crate) fn duplicate_top_level_assignment(
+    t: &[u8],
+    allowed: Allowance,
+    n: usize,
+    out: &mut [u32],
+    s: Sheet,
+) -> Sheet
     requires { ⌜ Part (now t) 0 n × Low (now t) n ⌝ }
-    ensures { λ r. ⌜ page (now (out .exit)) r ≡ writes (page (now (out .entry)) s) (repeated once (deeds (forestOf (now (t .entry)) 0 n)) [] []) ⌝ }
+    ensures { λ r. ⌜ page (now (out .exit)) r ≡ writes (page (now (out .entry)) s) (repeated allowed (deeds (forestOf (now (t .entry)) 0 n)) [] []) ⌝ }
 {
-    let r = stmts(t, n, out, undefined(s));
+    let r = stmts(t, n, out, undefined(allowed, s));
     r.sheet
 }

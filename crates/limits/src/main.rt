@@ -15,7 +15,9 @@ fn number(n: usize) {
 }
 
 fn print_valid(f: Facts) {
-    text(b": valid, nodes ");
+    text(b": valid, version ");
+    number(f.version);
+    text(b" nodes ");
     number(f.nodes);
     text(b" values ");
     number(f.values);

@@ -17,7 +17,7 @@ use Rattle.rules.specs.Flow.{none-name, flow-list}
 use Rattle.rules.specs.Incompatible.{incompatible-list}
 use Rattle.rules.specs.Dubious.{dubious-list}
 use Rattle.rules.specs.Joined.{lint-list, no-tally, tally-of, raise-all}
-use Rattle.rules.specs.Record.{width}
+use Rattle.rules.specs.Record.{width, Each}
 use Rattle.rules.specs.Outcome.{work-words}
 use Rattle.rules.specs.Calls.{Done-with-work, lint-call}
 use Rattle.rules.specs.Afterwards.{records-in, Gives, Lists, Warned-or-refused, warned, refused}
@@ -27,7 +27,6 @@ use Rattle.rules.specs.declared.Outcome.the-variants.{Listed}
 use Rattle.rules.specs.declared.Answer.{Answer}
 use Rattle.rules.proofs.Whole.{file-demand3, file-lint-few, file-tally}
 use Rattle.lint.proofs.lint.Reads as contract
-use Rattle.spans.specs.Fit.{Each}
 use Rattle.spans.specs.Placed.{Placed}
 use Rattle.spans.proofs.Whole.{file-placed}
 use Rattle.rules.proofs.Called.{one-outcome, warned-or-refused, lists, records-all, valid-where-listed, kept-in}

@@ -9,14 +9,13 @@ use Rattle.tree.specs.Judge.{judged}
 use Rattle.tree.specs.declared.Mode.{Mode}
 use Rattle.tree.specs.declared.Facts.{Facts}
 use Rattle.tree.specs.declared.Judged.the-variants.{Valid}
-use Rattle.rules.specs.Record.{width, all-words}
+use Rattle.rules.specs.Record.{width, all-words, Each}
 use Rattle.rules.specs.Joined.{lint-list, no-tally}
 use Rattle.rules.specs.Outcome.{work-words, refusal}
 use Rattle.rules.specs.Calls.{Done-with-work}
 use Rattle.rules.specs.declared.Refusal.{Refusal}
 use Rattle.rules.proofs.Answered.{fit, work-enough, room-enough, other-enough, all-passed, work-listed}
 use Rattle.rules.proofs.Whole.{file-lint-few}
-use Rattle.spans.specs.Fit.{Each}
 use Rattle.log.specs.Log.{log}
 use Rattle.log.proofs.Size.{file-log-size}
 use Rattle.sarif.specs.Calls.{checks, answer-by, sarif-of}

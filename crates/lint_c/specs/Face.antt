@@ -17,9 +17,9 @@ use Rattle.sarif.specs.declared.Outcome.{Outcome as Log-outcome}
 use Rattle.sarif.specs.declared.Outcome.the-variants.{Logged, Refused as Not-logged}
 use Rattle.sarif.specs.declared.Answer.{Answer as Log-answer}
 
--- The library's version: major * 10000 + minor * 100 + patch, here 3.0.1
+-- The library's version: major * 10000 + minor * 100 + patch, here 3.1.0
 abbrev pub library-version : ℕ
-library-version = 30001
+library-version = 30100
 
 -- ---- words laid over a room
 

@@ -16,7 +16,7 @@ use sarif::Outcome as Logged;
 use tree::Mode;
 
 // Major * 10000 + minor * 100 + patch; include/yudronkha.h says when each goes up.
-const VERSION: usize = 30001;
+const VERSION: usize = 30100;
 
 // The words of a report: a place, then the count of each code. A log's has one word more, its bytes.
 const REPORT: usize = CODES + 1;

@@ -9,11 +9,11 @@ use mathlib.Core.Logic.{_⊎_, inl, inr, _↔_}
 use mathlib.Core.Option.{some}
 use lib.Dec.{eqb, ltb, eqb-refl}
 use lib.ListN.{getD, take}
-use Rattle.rules.specs.Record.{Rec, listed}
+use Rattle.rules.specs.Record.{Rec, listed, Each}
 use Rattle.rules.specs.Joined.{count-of, tally-of}
 use Rattle.base.proofs.Bools.{so}
 use Rattle.json.specs.Text.{Json, Items, item}
-use Rattle.spans.specs.Fit.{Fit, Each}
+use Rattle.spans.specs.Fit.{Fit}
 use Rattle.log.specs.Log.{rule, rules, if-any, nonzeros, index-of}
 use Rattle.log.specs.Rules.{nth, counted, present, each-rule, Ascending}
 use Rattle.rules.specs.Joined.{codes, numbers}

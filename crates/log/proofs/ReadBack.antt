@@ -7,7 +7,7 @@ use mathlib.Core.List.{List, [], _∷_, _++_, map, append-nil}
 use mathlib.Core.Option.{Option, none, some}
 use lib.Dec.{ltb}
 use Rattle.tree.specs.Table.{tableOf}
-use Rattle.rules.specs.Record.{Rec}
+use Rattle.rules.specs.Record.{Rec, Each}
 use Rattle.rules.specs.Joined.{tally-of}
 use Rattle.base.specs.Ascii.{ascii}
 use Rattle.json.specs.Utf8.{front}
@@ -15,7 +15,7 @@ use Rattle.json.specs.Escape.{escape, escaped, unit}
 use Rattle.page.specs.Digits as to
 use Rattle.page.specs.Digits.{decimal}
 use Rattle.json.specs.Text.{Json, string, rows, Items, done, _⨾_, _⇒_, comma, text, lines, members}
-use Rattle.spans.specs.Fit.{Fit, Each}
+use Rattle.spans.specs.Fit.{Fit}
 use Rattle.log.specs.Words.{value-of, arguments}
 use Rattle.log.specs.Log.{only, one, _is_, level, result-kind, message-of, index-of, related, result, results, rule, if-any, rules, log, sarif-log}
 use Rattle.log.specs.Reader.{Found, expect, digits, result-at, found-before, read, found}

@@ -20,7 +20,7 @@ use Rattle.tree.specs.declared.Mode.{Mode}
 use Rattle.tree.proofs.TableLaws.{at-past}
 use Rattle.tree.proofs.ValidTable.{value-formed}
 use Rattle.rules.specs.Visit.{look}
-use Rattle.rules.specs.Record.{Rec, Span, span-of, words, all-words}
+use Rattle.rules.specs.Record.{Rec, Span, span-of, words, all-words, Each}
 use Rattle.rules.specs.Joined.{lint-list, tally-of}
 use Rattle.rules.specs.Codes.{short-name}
 use Rattle.base.proofs.Bools.{and-left, and-right}
@@ -31,7 +31,7 @@ use Rattle.page.specs.Digits as to
 use Rattle.page.specs.Digits.{decimal}
 use Rattle.json.specs.Text.{Items, nil}
 use Rattle.page.proofs.Decimals.{few-digits, decimal-few}
-use Rattle.spans.specs.Fit.{Fit, Each}
+use Rattle.spans.specs.Fit.{Fit}
 use Rattle.spans.proofs.Whole.{file-fit}
 use Rattle.log.specs.Words.{seconds, thirds, kinds, phrase, phrase-of, kind-word, shown, value-of, after-phrase, message-text, arguments}
 use Rattle.log.specs.Log.{level, result-kind, place, message, message-of, strings, other, related, nonzeros, index-of, result, results, rule, if-any, rules, sarif-log, log}

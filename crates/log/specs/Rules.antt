@@ -3,10 +3,9 @@ use Prim.Native.Nat.{ℕ, zero, suc, _<_}
 use mathlib.Core.List.{List, [], _∷_}
 use mathlib.Core.Option.{Option, none, some}
 use lib.Dec.{ltb}
-use Rattle.rules.specs.Record.{Rec, listed}
+use Rattle.rules.specs.Record.{Rec, listed, Each}
 use Rattle.rules.specs.Joined.{tally-of}
 use Rattle.json.specs.Text.{Json, Items, nil, item}
-use Rattle.spans.specs.Fit.{Each}
 use Rattle.log.specs.Log.{rule}
 
 -- the item at a place, where there is one: the first stands at 0

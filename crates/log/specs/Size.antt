@@ -3,8 +3,7 @@ use Prim.Native.Nat.{ℕ, _≤_, _<_}
 use mathlib.Core.List.{List}
 use lib.ListN.{length}
 use Rattle.tree.specs.Table.{tableOf, at}
-use Rattle.rules.specs.Record.{Rec, words}
-use Rattle.spans.specs.Fit.{Each}
+use Rattle.rules.specs.Record.{Rec, words, Each}
 use Rattle.rules.specs.Joined.{codes}
 
 -- words of 32 bits, "eight u32" and 02's "two numbers after its present eight", and a value of "Length at most 255"

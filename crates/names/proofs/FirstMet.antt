@@ -14,13 +14,12 @@ use Rattle.tree.specs.Bytes.{pick}
 use Rattle.tree.specs.Forest.{Spot, Head, spotAt, headAt, forestOf}
 use Rattle.tree.specs.code.Part.{Part}
 use Rattle.tree.specs.Table.{tableOf, underscored, globalsOf}
-use Rattle.rules.specs.Record.{named-at}
+use Rattle.rules.specs.Record.{named-at, Each}
 use Rattle.rules.specs.Order.{of-role, takes}
 use Rattle.rules.specs.Names.{met, first-met, told}
 use Rattle.rules.specs.Meeting.{is-met, Meets-first}
 use Rattle.rules.specs.code.Marks.{names-tour}
 use Rattle.rules.specs.Outcome.{work-words}
-use Rattle.rules.proofs.Meets.{For-all, all-right}
 use Rattle.rules.proofs.FirstMet.{first-is, tour-met}
 use Rattle.rules.proofs.Numbered.{Own, met-own}
 use Rattle.answer.proofs.Lent.{tail-lent, tail-back}
@@ -31,11 +30,12 @@ use Rattle.meeting.specs.Words.{firstWords}
 use Rattle.meeting.proofs.First.{first-placed, first-kept, first-length, first-found, met-any}
 use Rattle.names.specs.Walk.{moduleOf, visitOf, wantOf}
 use Rattle.names.specs.Records.{recordIn, recordsOf, metWords}
+use Rattle.rules.proofs.Each.{each-right}
 
 -- ---- lists by place
 
 placesIn-map : {A B : Type 0} (f : ℕ → B) (g : A → B) (h : ℕ → A) (P : A → Type 0) (m a : ℕ)
-    → ((k : ℕ) → a ≤ k → k < a + m → P (h k) → f k ≡ g (h k)) → For-all P (placesIn h a m) → placesIn f a m ≡ map g (placesIn h a m)
+    → ((k : ℕ) → a ≤ k → k < a + m → P (h k) → f k ≡ g (h k)) → Each P (placesIn h a m) → placesIn f a m ≡ map g (placesIn h a m)
 unfolding placesIn
 placesIn-map f g h P zero a e p = refl
 placesIn-map f g h P (suc m) a e p =
@@ -45,10 +45,10 @@ placesIn-map f g h P (suc m) a e p =
 -- ---- a node met
 
 -- a list's first node of a span and name is that of its number
-first-own : (t : List ℕ) (n : ℕ) (s : Spot) (hs : List Head) → For-all (Own t n) hs → Meets-first s hs (first-met s hs)
+first-own : (t : List ℕ) (n : ℕ) (s : Spot) (hs : List Head) → Each (Own t n) hs → Meets-first s hs (first-met s hs)
     → (headAt t (first-met s hs) .spot ≡ s) × (headAt t (first-met s hs) .number ≡ first-met s hs)
 first-own t n s hs o f =
-    let it : For-all (Own t n) (f .it ∷ f .after) = all-right (Own t n) (f .before) (f .it ∷ f .after) (rw (f .there) at o) in
+    let it : Each (Own t n) (f .it ∷ f .after) = each-right (Own t n) (f .before) (f .it ∷ f .after) (rw (f .there) at o) in
     let e : headAt t (first-met s hs) ≡ f .it = ap (headAt t) (sym (f .numbered)) ∙ it .0 .0 in
     (ap (λ (h : Head). h .spot) e ∙ f .pair, ap (λ (h : Head). h .number) e ∙ f .numbered)
 
@@ -62,7 +62,7 @@ module _ (t : List ℕ) (n : ℕ) (part : Part t 0 n) (w : List ℕ) (r : ℕ) (
   unfolding moduleOf visitOf wantOf
   nodes-met = met-any _ _ (of-role 0) (forestOf t 0 n)
 
-  all-own : For-all (Own t n) (met (moduleOf t n))
+  all-own : Each (Own t n) (met (moduleOf t n))
   all-own = rw (sym nodes-met) (met-own part never (of-role 0))
 
   -- the words from 3072 on
@@ -87,7 +87,7 @@ module _ (t : List ℕ) (n : ℕ) (part : Part t 0 n) (w : List ℕ) (r : ℕ) (
       rw (code, at) (as-told t s (met (moduleOf t n)) (getD w (4096 + k) 0) o)
 
   -- THE RECORDS are the rules': of warnings each of which is met
-  met-records : For-all (λ x. T (is-met (met (moduleOf t n)) (x .spot))) (outOf t w r) → recordsOf t (metWords t n w r) r ≡ map (told (met (moduleOf t n))) (outOf t w r)
+  met-records : Each (λ x. T (is-met (met (moduleOf t n)) (x .spot))) (outOf t w r) → recordsOf t (metWords t n w r) r ≡ map (told (met (moduleOf t n))) (outOf t w r)
   unfolding recordsOf metWords outOf places placesIn
   met-records p = go (decLt 0 r)
     where
@@ -101,7 +101,7 @@ module _ (t : List ℕ) (n : ℕ) (part : Part t 0 n) (w : List ℕ) (r : ℕ) (
   pub walk-records : outOf t w r ≡ names-tour (underscored (tableOf t)) (globalsOf t) (moduleOf t n)
       → recordsOf t (metWords t n w r) r ≡ map (told (met (moduleOf t n))) (names-tour (underscored (tableOf t)) (globalsOf t) (moduleOf t n))
   walk-records e =
-      let all : For-all (λ x. T (is-met (met (moduleOf t n)) (x .spot))) (outOf t w r) = rw e (tour-met (underscored (tableOf t)) (globalsOf t) (moduleOf t n)) in
+      let all : Each (λ x. T (is-met (met (moduleOf t n)) (x .spot))) (outOf t w r) = rw e (tour-met (underscored (tableOf t)) (globalsOf t) (moduleOf t n)) in
       met-records all ∙ ap (map (told (met (moduleOf t n)))) e
 
 -- what is lent on from 3072 on, and comes back

@@ -8,7 +8,7 @@ use mathlib.Core.Option.{Option}
 use lib.Dec.{eqb, T, eqb→eq}
 use Rattle.tree.specs.Forest.{Spot, Head, Forest, treeOf}
 use Rattle.tree.specs.Table.{tableOf, spells, underscored, a-string, globalsOf}
-use Rattle.rules.specs.Record.{Rec, named-at}
+use Rattle.rules.specs.Record.{Rec, named-at, Each}
 use Rattle.rules.specs.Order.{Cmd, body, fail-name}
 use Rattle.rules.specs.Names.{same, Warning, names, met, first-met, told, met-in, names-list}
 use Rattle.rules.specs.Meeting.{is-met}
@@ -22,7 +22,6 @@ use Rattle.rules.proofs.Spots.{same-sound}
 use Rattle.rules.proofs.Flag.{good, four-six}
 use Rattle.rules.proofs.FlowSound.{end-flagged, bare-flagged}
 use Rattle.rules.proofs.Valid.{names-demand}
-use Rattle.rules.proofs.Meets.{For-all}
 use Rattle.rules.proofs.FirstMet.{warned-met, itself, reached-holder}
 
 -- A list that has the spot of g under 4 or 6, of which the nodes met hs have g first, has the one or the other record.
@@ -49,7 +48,7 @@ module _ (hs : List Head) (g : Head) (e : first-met (g .spot) hs ≡ g .number) 
       go (inr u) f = told-on w ws (f u)
 
 -- a spot under 4 or 6 is one of the spots warned
-good-met : (p : Spot → Bool) (s : Spot) (ws : List Warning) → For-all (λ w. T (p (w .spot))) ws → T (good s ws) → T (p s)
+good-met : (p : Spot → Bool) (s : Spot) (ws : List Warning) → Each (λ w. T (p (w .spot))) ws → T (good s ws) → T (p s)
 good-met p s [] h t = absurd t
 good-met p s (w ∷ ws) h t = go (or-cases (same s (w .spot) && four-six (w .code)) (good s ws) t) (good-met p s ws (h .1))
   where

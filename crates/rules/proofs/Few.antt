@@ -8,6 +8,7 @@ use mathlib.Core.Logic.{_⊎_, inl, inr}
 use mathlib.Core.Option.{Option, none, some}
 use lib.Dec.{eqb, T, T-not, eqb→eq}
 use lib.ListN.{length, length-append, length-map}
+use Rattle.tree.specs.Bytes.{versionOf}
 use Rattle.tree.specs.Forest.{Spot, Head, Forest, Forest.none as leaf, node, treeOf}
 use Rattle.tree.specs.declared.Likeness.{Likeness}
 use Rattle.tree.specs.declared.Likeness.the-variants.{Different, SameForm, SameNumber}
@@ -21,7 +22,8 @@ use Rattle.rules.specs.Record.{Rec, listed, valued-at, plainly, named-at
 use Rattle.rules.specs.Visit.{has, look, last-of, head-at, spot-at, each as each-node, kind-at}
 use Rattle.rules.specs.Order.{Bind, one, several, nothing, bind-of, fail-name}
 use Rattle.rules.specs.Flow.{flow, Loads, loads-part, loads, effect, effect-part, effect-walk, tail-part, tail, redundant-part, redundant-walk, below-root, Reached, Course, in-list, one-by-one, only, after-stop, reached-part, reached, Return, everything, the-body, the-rest, returns-part, returns, ends, missing, missing-expression, bare-recs, check-for, check, reason, returns-walk, none-name, flow-list}
-use Rattle.rules.specs.Incompatible.{check-at, type-check, Deed, defines, repeats, deed-part, defined-names, self-set, Top, assigning, modifying, defining, loading, holding, aside, tops, top-part, deeds, First, first-of, times, defined, may-repeat, repeated, incompatible, once, type-name, five-types, spells-one, incompatible-list}
+use Rattle.rules.specs.declared.Allowance.{Allowance}
+use Rattle.rules.specs.Incompatible.{check-at, type-check, Deed, defines, repeats, deed-part, defined-names, self-set, Top, assigning, modifying, defining, loading, holding, aside, tops, top-part, deeds, First, first-of, was-free, defined, may-repeat, repeated, incompatible, allowance, type-name, five-types, spells-one, incompatible-list}
 use Rattle.rules.specs.Dubious.{seen-with, keys, clash, against, doubles, dict-at, idle-at, dubious, dubious-list}
 use Rattle.rules.specs.code.Marks.{nodes}
 use Rattle.rules.proofs.Look.{row, one-kind, look-none}
@@ -353,25 +355,25 @@ pick-most : (b : Bool) (x y : List Rec) (n : ℕ) → length x ≤ n → length 
 pick-most true x y n p q = omega arith
 pick-most false x y n p q = q
 
-module _ (free : ℕ → Bool) where
-  judge-few : (es : List Deed) (ds : List First) (xs : List ℕ) → length (repeated free es ds xs) ≤ length es
+module _ (allowed : Allowance) where
+  judge-few : (es : List Deed) (ds : List First) (xs : List ℕ) → length (repeated allowed es ds xs) ≤ length es
   judge-few [] ds xs = omega arith
-  judge-few (defines l s ∷ es) ds xs = defined-most (first-of (s .spot .value) ds) l s ds (λ v. repeated free es v xs) (length es)
+  judge-few (defines l s ∷ es) ds xs = defined-most (first-of (s .spot .value) ds) l s ds (λ v. repeated allowed es v xs) (length es)
       (λ v. judge-few es v xs)
   judge-few (repeats s ∷ es) ds xs =
-      pick-most (may-repeat free (first-of (s .spot .value) ds) (times (s .spot .value) xs)) (repeated free es ds (s .spot .value ∷ xs))
-      (defined (first-of (s .spot .value) ds) false s ds (λ v. repeated free es v xs)) (length es) (judge-few es ds (s .spot .value ∷ xs))
-      (defined-most (first-of (s .spot .value) ds) false s ds (λ v. repeated free es v xs) (length es) (λ v. judge-few es v xs))
+      pick-most (may-repeat allowed (first-of (s .spot .value) ds) (was-free (s .spot .value) xs)) (repeated allowed es ds (s .spot .value ∷ xs))
+      (defined (first-of (s .spot .value) ds) false s ds (λ v. repeated allowed es v xs)) (length es) (judge-few es ds (s .spot .value ∷ xs))
+      (defined-most (first-of (s .spot .value) ds) false s ds (λ v. repeated allowed es v xs) (length es) (λ v. judge-few es v xs))
 
 -- INCOMPATIBLE: at most two records a node
-pub incompatible-few : (free is-type names-type : ℕ → Bool) (f : Forest) → length (incompatible free is-type names-type f) ≤ 2 * nodes f
-incompatible-few free is-type names-type f =
+pub incompatible-few : (allowed : Allowance) (is-type names-type : ℕ → Bool) (f : Forest) → length (incompatible allowed is-type names-type f) ≤ 2 * nodes f
+incompatible-few allowed is-type names-type f =
     let a = each-few (check-at is-type names-type)
     (λ h k. listed-one ((eqb 31 (h .kind) || eqb 32 (h .kind)) && type-check is-type names-type k)
     (valued-at 14 h (spot-at 2 k .value))) f in
-    let b = judge-few free (deeds f) [] [] in
+    let b = judge-few allowed (deeds f) [] [] in
     let c = deeds-few f in
-    let e = length-append (each-node (check-at is-type names-type) f) (repeated free (deeds f) [] []) in
+    let e = length-append (each-node (check-at is-type names-type) f) (repeated allowed (deeds f) [] []) in
     omega (arith, a, b, c, e)
 
 -- ---- dubious
@@ -431,7 +433,7 @@ flow-list-few t = flow-few (spells (tableOf t) fail-name) (spells (tableOf t) no
 
 pub incompatible-list-few : (t : List ℕ) → length (incompatible-list t) ≤ 2 * nodes (treeOf t)
 unfolding incompatible-list
-incompatible-list-few t = incompatible-few once (spells (tableOf t) type-name) (spells-one (tableOf t) five-types) (treeOf t)
+incompatible-list-few t = incompatible-few (allowance (versionOf t)) (spells (tableOf t) type-name) (spells-one (tableOf t) five-types) (treeOf t)
 
 pub dubious-list-few : (mode : Mode) (t : List ℕ) → length (dubious-list mode t) ≤ 2 * nodes (treeOf t)
 unfolding dubious-list

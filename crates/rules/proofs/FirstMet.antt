@@ -9,6 +9,7 @@ use mathlib.Core.Logic.{_⊎_, inl, inr}
 use mathlib.Core.Option.{Option}
 use lib.Dec.{leb, T}
 use Rattle.tree.specs.Forest.{Spot, Head, Forest}
+use Rattle.rules.specs.Record.{Each}
 use Rattle.rules.specs.Order.{Form, form-of, Bind, one, several, nothing, bind-of, Cmd, skip, _⨟_, use-of, set-of, stop, branch, loop, scope, of-role, binds, takes, body}
 use Rattle.rules.specs.Names.{same, State, back-to, joined, unlooped, enter, leave, branch-of, same-state, round, rounds, walk, names, met, first-met}
 use Rattle.rules.specs.code.Marks.{names-tour}
@@ -19,8 +20,9 @@ use Rattle.rules.proofs.Bools.{or-left, or-right}
 use Rattle.rules.proofs.Spots.{same-sound, same-exact}
 use Rattle.rules.proofs.Unique.{hit, ident-hit, bind-hit, me, count}
 use Rattle.rules.proofs.Valid.{unique-of}
-use Rattle.rules.proofs.Meets.{For-all, all-both, all-left, all-right, all-map, is-identifier, is-one, Holder, at, below, beside, met-holders, bound-holders}
+use Rattle.rules.proofs.Meets.{is-identifier, is-one, Holder, at, below, beside, met-holders, bound-holders}
 use Rattle.rules.proofs.Out.{tour-hold, names-hold}
+use Rattle.rules.proofs.Each.{each-left, each-more, each-right, join}
 
 -- ---- of a list
 
@@ -201,10 +203,10 @@ module _ (u : ℕ → Bool) where
 -- ---- of a tree
 
 -- each spot of a list of nodes is met in it
-met-of : (hs : List Head) → For-all (λ h. T (is-met hs (h .spot))) hs
+met-of : (hs : List Head) → Each (λ h. T (is-met hs (h .spot))) hs
 met-of hs = go hs (λ h t. t)
   where
-    go : (xs : List Head) → ((t : Spot) → T (is-met xs t) → T (is-met hs t)) → For-all (λ h. T (is-met hs (h .spot))) xs
+    go : (xs : List Head) → ((t : Spot) → T (is-met xs t) → T (is-met hs t)) → Each (λ h. T (is-met hs (h .spot))) xs
     go [] f = tt
     go (x ∷ xs) f = (
       f (x .spot) (or-left (same (x .spot) (x .spot)) (is-met xs (x .spot)) (same-exact (x .spot))),
@@ -212,11 +214,11 @@ met-of hs = go hs (λ h t. t)
     )
 
 -- EACH SPOT at which names warns is met.
-pub tour-met : (u : ℕ → Bool) (g : Option (ℕ → Bool)) (c : Cmd) → For-all (λ w. T (is-met (met c) (w .spot))) (names-tour u g c)
+pub tour-met : (u : ℕ → Bool) (g : Option (ℕ → Bool)) (c : Cmd) → Each (λ w. T (is-met (met c) (w .spot))) (names-tour u g c)
 tour-met u g c = tour-hold (is-met (met c)) u g c (met-of (met c))
 
 pub warned-met : (u is-fail : ℕ → Bool) (g : Option (ℕ → Bool)) (f : Forest)
-    → For-all (λ w. T (is-met (met (body is-fail f)) (w .spot))) (names u is-fail g f)
+    → Each (λ w. T (is-met (met (body is-fail f)) (w .spot))) (names u is-fail g f)
 warned-met u is-fail g f =
     names-hold (is-met (met (body is-fail f))) u is-fail g f (met-of (met (body is-fail f)))
 
@@ -268,7 +270,7 @@ only-one s f {g} {h} u (beside n) (at v) a b = let p = me-one s h b v in let q =
 only-one s f u (beside n) (below m) a b = let p = counted s n a in let q = counted s m b in absurd (let z : ⊥ = omega (arith, p, q, u) in z)
 only-one s f u (beside {s = r} n) (beside m) a b = only-one s r (omega (arith, u)) n m a b
 
-first-of-one : (s : Spot) (g : Head) (hs : List Head) → For-all (λ h. T (same s (h .spot)) → h ≡ g) hs → T (is-met hs s) → first-met s hs ≡ g .number
+first-of-one : (s : Spot) (g : Head) (hs : List Head) → Each (λ h. T (same s (h .spot)) → h ≡ g) hs → T (is-met hs s) → first-met s hs ≡ g .number
 first-of-one s g [] p t = absurd t
 first-of-one s g (h ∷ hs) p t = go (same s (h .spot)) (p .0) (first-of-one s g hs (p .1)) t
   where
@@ -282,19 +284,19 @@ pub itself : (is-fail : ℕ → Bool) (f : Forest) → T (names-apart f) → (g 
     → first-met (g .spot) (met (body is-fail f)) ≡ g .number
 itself is-fail f u g n t =
     first-of-one (g .spot) g (met (body is-fail f))
-    (all-map (λ h. Holder h f) (λ h. T (same (g .spot) (h .spot)) → h ≡ g)
+    (each-more (λ h. Holder h f) (λ h. T (same (g .spot) (h .spot)) → h ≡ g)
     (λ h m e. sym (only-one (g .spot) f (unique-of f u (g .spot)) n m (same-exact (g .spot)) e)) (met (body is-fail f)) (met-holders is-fail (of-role 0) f))
     t
 
 -- ---- of a run
 
 -- a use that a run reaches is met
-reach-met : (P : Head → Type 0) {g : Head} {c : Cmd} {σ : Held} → Reach g c σ → For-all P (met c) → P g
+reach-met : (P : Head → Type 0) {g : Head} {c : Cmd} {σ : Held} → Reach g c σ → Each P (met c) → P g
 reach-met P (here n) p = p .0
-reach-met P (first {a = a} {b = b} r) p = reach-met P r (all-left P (met a) (met b) p)
-reach-met P (second {a = a} {b = b} q r) p = reach-met P r (all-right P (met a) (met b) p)
-reach-met P (left {a = a} {b = b} r) p = reach-met P r (all-left P (met a) (met b) p)
-reach-met P (right {a = a} {b = b} r) p = reach-met P r (all-right P (met a) (met b) p)
+reach-met P (first {a = a} {b = b} r) p = reach-met P r (each-left P (met a) (met b) p)
+reach-met P (second {a = a} {b = b} q r) p = reach-met P r (each-right P (met a) (met b) p)
+reach-met P (left {a = a} {b = b} r) p = reach-met P r (each-left P (met a) (met b) p)
+reach-met P (right {a = a} {b = b} r) p = reach-met P r (each-right P (met a) (met b) p)
 reach-met P (now r) p = reach-met P r p
 reach-met P (later q r) p = reach-met P r p
 reach-met P (continued q r) p = reach-met P r p
@@ -310,4 +312,4 @@ reached-holder is-fail f of-module r = reach-met (λ h. Holder h f) r (met-holde
 reached-holder is-fail f (of-def {h = h} {k = k} n e) r =
     under-node n
     (reach-met (λ h. Holder h k) r
-    (all-both (λ h. Holder h k) (met (binds 0 k)) (met (takes is-fail (of-role 1) k)) (bound-holders 0 k) (met-holders is-fail (of-role 1) k)))
+    (join (λ h. Holder h k) (met (binds 0 k)) (met (takes is-fail (of-role 1) k)) (bound-holders 0 k) (met-holders is-fail (of-role 1) k)))

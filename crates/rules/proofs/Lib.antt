@@ -1,5 +1,6 @@
 -- What is proved of the rules.
 pub mod Bools
+pub mod Each
 pub mod Look
 pub mod Spots
 pub mod Keep
@@ -25,6 +26,8 @@ pub mod Numbered
 pub mod Seven
 pub mod Peak
 pub mod Few
+pub mod Deeds
+pub mod Dialect
 pub mod Tally
 pub mod Whole
 pub mod Words

@@ -1,36 +1,15 @@
 -- The nodes that the names walk meets are those that hold a name. Assumes nothing.
 use Prim.Native.Nat.{ℕ}
 use mathlib.Core.Bool.{Bool, true, false, cond}
-use mathlib.Core.List.{List, [], _∷_, _++_}
+use mathlib.Core.List.{[], _∷_, _++_}
 use mathlib.Core.Logic.{_⊎_, inl, inr}
 use lib.Dec.{eqb, T}
 use Rattle.tree.specs.Forest.{Head, Forest, Forest.none as leaf, node}
+use Rattle.rules.specs.Record.{Each}
 use Rattle.rules.specs.Order.{Cmd, skip, _⨟_, stop, fails, Form, form-of, Bind, one, several, nothing, bind-of, bind-part, use-part, binds, uses, picked, Want, of-role, every, first-over, first-bound, clauses, part, takes, fail-called}
 use Rattle.rules.specs.Names.{met}
 use Rattle.rules.proofs.Look.{case}
-
--- ---- each of a list
-
-abbrev pub For-all : {A : Type 0} → (A → Type 0) → List A → Type 0
-For-all P [] = Unit {0}
-For-all P (x ∷ xs) = P x × For-all P xs
-
-module _ {A : Type 0} (P : A → Type 0) where
-  pub all-both : (xs ys : List A) → For-all P xs → For-all P ys → For-all P (xs ++ ys)
-  all-both [] ys p q = q
-  all-both (x ∷ xs) ys p q = (p .0, all-both xs ys (p .1) q)
-
-  pub all-left : (xs ys : List A) → For-all P (xs ++ ys) → For-all P xs
-  all-left [] ys p = tt
-  all-left (x ∷ xs) ys p = (p .0, all-left xs ys (p .1))
-
-  pub all-right : (xs ys : List A) → For-all P (xs ++ ys) → For-all P ys
-  all-right [] ys p = p
-  all-right (x ∷ xs) ys p = all-right xs ys (p .1)
-
-pub all-map : {A : Type 0} (P Q : A → Type 0) → ((x : A) → P x → Q x) → (xs : List A) → For-all P xs → For-all Q xs
-all-map P Q f [] p = tt
-all-map P Q f (x ∷ xs) p = (f x (p .0), all-map P Q f xs (p .1))
+use Rattle.rules.proofs.Each.{join}
 
 -- ---- the nodes met
 
@@ -48,96 +27,96 @@ module _ (P : Head → Type 0) where
   Within leaf = Unit {0}
   Within (node h k s) = ((T (is-identifier (form-of h)) → P h) × (T (is-one (bind-of h)) → P h)) × (Within k × Within s)
 
-  pick-met : (b : Bool) (x y : Cmd) → For-all P (met x) → For-all P (met y) → For-all P (met (picked b x y))
+  pick-met : (b : Bool) (x y : Cmd) → Each P (met x) → Each P (met y) → Each P (met (picked b x y))
   pick-met false x y g h = h
-  pick-met true x y g h = all-both P (met x) (met y) g h
+  pick-met true x y g h = join P (met x) (met y) g h
 
-  bind-met : (z : Bind) (h : Head) (down : ℕ → Cmd) → (T (is-one z) → P h) → For-all P (met (down 0)) → For-all P (met (bind-part z h down))
+  bind-met : (z : Bind) (h : Head) (down : ℕ → Cmd) → (T (is-one z) → P h) → Each P (met (down 0)) → Each P (met (bind-part z h down))
   bind-met (one o) h down t g = (t tt, tt)
   bind-met several h down t g = g
   bind-met nothing h down t g = tt
 
-  pub binds-met : (r : ℕ) (f : Forest) → Within f → For-all P (met (binds r f))
+  pub binds-met : (r : ℕ) (f : Forest) → Within f → Each P (met (binds r f))
   binds-met r leaf w = tt
   binds-met r (node h k s) w =
       pick-met (eqb r (h .role)) (bind-part (bind-of h) h (λ v. binds v k)) (binds r s)
       (bind-met (bind-of h) h (λ v. binds v k) (w .0 .1) (binds-met 0 k (w .1 .0))) (binds-met r s (w .1 .1))
 
-  use-met : (z : Bind) (h : Head) (down : ℕ → Cmd) → (T (is-one z) → P h) → For-all P (met (down 0)) → For-all P (met (use-part z h down))
+  use-met : (z : Bind) (h : Head) (down : ℕ → Cmd) → (T (is-one z) → P h) → Each P (met (down 0)) → Each P (met (use-part z h down))
   use-met (one o) h down t g = (t tt, tt)
   use-met several h down t g = g
   use-met nothing h down t g = tt
 
-  uses-met : (r : ℕ) (f : Forest) → Within f → For-all P (met (uses r f))
+  uses-met : (r : ℕ) (f : Forest) → Within f → Each P (met (uses r f))
   uses-met r leaf w = tt
   uses-met r (node h k s) w =
       pick-met (eqb r (h .role)) (use-part (bind-of h) h (λ v. uses v k)) (uses r s)
       (use-met (bind-of h) h (λ v. uses v k) (w .0 .1) (uses-met 0 k (w .1 .0))) (uses-met r s (w .1 .1))
 
-  fail-met : (b : Bool) → For-all P (met (cond b (stop fails) skip))
+  fail-met : (b : Bool) → Each P (met (cond b (stop fails) skip))
   fail-met true = tt
   fail-met false = tt
 
-  two-met : (a b : Cmd) → For-all P (met a) → For-all P (met b) → For-all P (met a ++ met b)
-  two-met a b p q = all-both P (met a) (met b) p q
+  two-met : (a b : Cmd) → Each P (met a) → Each P (met b) → Each P (met a ++ met b)
+  two-met a b p q = join P (met a) (met b) p q
 
   module _ (is-fail : ℕ → Bool) where
-    part-met : (z : Form) (h : Head) (k : Forest) → (T (is-identifier z) → P h) → Within k → ((v : Want) → For-all P (met (takes is-fail v k)))
-        → For-all P (met (part is-fail z h k (λ v. takes is-fail v k)))
+    part-met : (z : Form) (h : Head) (k : Forest) → (T (is-identifier z) → P h) → Within k → ((v : Want) → Each P (met (takes is-fail v k)))
+        → Each P (met (part is-fail z h k (λ v. takes is-fail v k)))
     part-met Form.breaking h k t w c = tt
     part-met Form.returning h k t w c = two-met (takes is-fail (of-role 4) k) skip (c (of-role 4)) tt
     part-met Form.expression h k t w c =
         two-met (takes is-fail (of-role 4) k) (cond (fail-called is-fail k) (stop fails) skip) (c (of-role 4)) (fail-met (fail-called is-fail k))
     part-met Form.assign h k t w c =
-        all-both P (met (takes is-fail (of-role 3) k)) _ (c (of-role 3)) (all-both P (met (takes is-fail (of-role 4) k)) _ (c (of-role 4))
-        (all-both P (met (takes is-fail (of-role 5) k)) _ (c (of-role 5)) (binds-met 5 k w)))
+        join P (met (takes is-fail (of-role 3) k)) _ (c (of-role 3)) (join P (met (takes is-fail (of-role 4) k)) _ (c (of-role 4))
+        (join P (met (takes is-fail (of-role 5) k)) _ (c (of-role 5)) (binds-met 5 k w)))
     part-met Form.modify h k t w c =
-        all-both P (met (takes is-fail (of-role 4) k)) _ (c (of-role 4)) (all-both P (met (takes is-fail (of-role 5) k)) _ (c (of-role 5))
-        (all-both P (met (uses 5 k)) _ (uses-met 5 k w)
-        (all-both P (met (takes is-fail (of-role 5) k)) _ (c (of-role 5)) (binds-met 5 k w))))
+        join P (met (takes is-fail (of-role 4) k)) _ (c (of-role 4)) (join P (met (takes is-fail (of-role 5) k)) _ (c (of-role 5))
+        (join P (met (uses 5 k)) _ (uses-met 5 k w)
+        (join P (met (takes is-fail (of-role 5) k)) _ (c (of-role 5)) (binds-met 5 k w))))
     part-met Form.statements h k t w c = c (of-role 0)
     part-met Form.if h k t w c =
-        all-both P (met (takes is-fail (of-role 4) k)) _ (c (of-role 4)) (all-both P (met (takes is-fail (of-role 1) k)) [] (c (of-role 1)) tt)
+        join P (met (takes is-fail (of-role 4) k)) _ (c (of-role 4)) (join P (met (takes is-fail (of-role 1) k)) [] (c (of-role 1)) tt)
     part-met Form.if-else h k t w c =
-        all-both P (met (takes is-fail (of-role 4) k)) _ (c (of-role 4)) (all-both P (met (takes is-fail (of-role 1) k)) _ (c (of-role 1)) (c (of-role 2)))
+        join P (met (takes is-fail (of-role 4) k)) _ (c (of-role 4)) (join P (met (takes is-fail (of-role 1) k)) _ (c (of-role 1)) (c (of-role 2)))
     part-met Form.for h k t w c =
-        all-both P (met (takes is-fail (of-role 4) k)) _ (c (of-role 4)) (all-both P (met (takes is-fail (of-role 5) k)) _ (c (of-role 5))
-        (all-both P (met (binds 5 k)) _ (binds-met 5 k w) (c (of-role 1))))
+        join P (met (takes is-fail (of-role 4) k)) _ (c (of-role 4)) (join P (met (takes is-fail (of-role 5) k)) _ (c (of-role 5))
+        (join P (met (binds 5 k)) _ (binds-met 5 k w) (c (of-role 1))))
     part-met Form.def h k t w c =
-        all-both P (met (takes is-fail (of-role 0) k)) _ (c (of-role 0)) (all-both P (met (takes is-fail (of-role 3) k)) _ (c (of-role 3))
-        (all-both P (met (binds 6 k)) _ (binds-met 6 k w) (all-both P (met (binds 0 k)) _ (binds-met 0 k w) (c (of-role 1)))))
+        join P (met (takes is-fail (of-role 0) k)) _ (c (of-role 0)) (join P (met (takes is-fail (of-role 3) k)) _ (c (of-role 3))
+        (join P (met (binds 6 k)) _ (binds-met 6 k w) (join P (met (binds 0 k)) _ (binds-met 0 k w) (c (of-role 1)))))
     part-met Form.load h k t w c = binds-met 0 k w
     part-met Form.identifier h k t w c = (t tt, tt)
     part-met Form.lambda h k t w c =
-        all-both P (met (takes is-fail (of-role 0) k)) _ (c (of-role 0)) (all-both P (met (binds 0 k)) _ (binds-met 0 k w) (c (of-role 1)))
+        join P (met (takes is-fail (of-role 0) k)) _ (c (of-role 0)) (join P (met (binds 0 k)) _ (binds-met 0 k w) (c (of-role 1)))
     part-met Form.comprehension h k t w c =
-        all-both P (met (takes is-fail first-over k)) _ (c first-over) (all-both P (met (takes is-fail first-bound k)) _ (c first-bound)
-        (all-both P (met (takes is-fail (of-role 8) k)) _ (c (of-role 8)) (c (of-role 4))))
+        join P (met (takes is-fail first-over k)) _ (c first-over) (join P (met (takes is-fail first-bound k)) _ (c first-bound)
+        (join P (met (takes is-fail (of-role 8) k)) _ (c (of-role 8)) (c (of-role 4))))
     part-met Form.plain h k t w c = c every
 
-    over-met : (b : Bool) (x y : Cmd) → For-all P (met x) → For-all P (met y) → For-all P (met (elim b as (λ z. Cmd) [ false ↦ y | true ↦ x ]))
+    over-met : (b : Bool) (x y : Cmd) → Each P (met x) → Each P (met y) → Each P (met (elim b as (λ z. Cmd) [ false ↦ y | true ↦ x ]))
     over-met true x y g h = g
     over-met false x y g h = h
 
-    step-met : (v : Want) (h : Head) (k s : Forest) → For-all P (met (part is-fail (form-of h) h k (λ v. takes is-fail v k))) → Within k
-        → ((v : Want) → For-all P (met (takes is-fail v k))) → ((v : Want) → For-all P (met (takes is-fail v s)))
-        → For-all P (met (takes is-fail v (node h k s)))
+    step-met : (v : Want) (h : Head) (k s : Forest) → Each P (met (part is-fail (form-of h) h k (λ v. takes is-fail v k))) → Within k
+        → ((v : Want) → Each P (met (takes is-fail v k))) → ((v : Want) → Each P (met (takes is-fail v s)))
+        → Each P (met (takes is-fail v (node h k s)))
     step-met (of-role r) h k s a w c d = pick-met (eqb r (h .role)) (part is-fail (form-of h) h k (λ v. takes is-fail v k))
         (takes is-fail (of-role r) s) a (d (of-role r))
-    step-met every h k s a w c d = all-both P (met (part is-fail (form-of h) h k (λ v. takes is-fail v k))) _ a (d every)
+    step-met every h k s a w c d = join P (met (part is-fail (form-of h) h k (λ v. takes is-fail v k))) _ a (d every)
     step-met first-over h k s a w c d = over-met (eqb 0 (h .role)) (takes is-fail (of-role 4) k) (takes is-fail first-over s) (c (of-role 4))
         (d first-over)
     step-met first-bound h k s a w c d =
         over-met (eqb 0 (h .role)) (takes is-fail (of-role 5) k ⨟ binds 5 k ⨟ takes is-fail clauses s) (takes is-fail first-bound s)
-        (all-both P (met (takes is-fail (of-role 5) k)) _ (c (of-role 5)) (all-both P (met (binds 5 k)) _ (binds-met 5 k w) (d clauses)))
+        (join P (met (takes is-fail (of-role 5) k)) _ (c (of-role 5)) (join P (met (binds 5 k)) _ (binds-met 5 k w) (d clauses)))
         (d first-bound)
     step-met clauses h k s a w c d =
         pick-met (eqb 0 (h .role)) (takes is-fail (of-role 4) k ⨟ takes is-fail (of-role 5) k ⨟ binds 5 k) (takes is-fail clauses s)
-        (all-both P (met (takes is-fail (of-role 4) k)) _ (c (of-role 4)) (all-both P (met (takes is-fail (of-role 5) k)) _ (c (of-role 5)) (binds-met 5 k w)))
+        (join P (met (takes is-fail (of-role 4) k)) _ (c (of-role 4)) (join P (met (takes is-fail (of-role 5) k)) _ (c (of-role 5)) (binds-met 5 k w)))
         (d clauses)
 
     -- what holds of those nodes holds of each node that is met
-    pub takes-met : (f : Forest) → Within f → (v : Want) → For-all P (met (takes is-fail v f))
+    pub takes-met : (f : Forest) → Within f → (v : Want) → Each P (met (takes is-fail v f))
     takes-met leaf w v = tt
     takes-met (node h k s) w v =
         step-met v h k s (part-met (form-of h) h k (w .0 .0) (w .1 .0) (takes-met k (w .1 .0))) (w .1 .0) (takes-met k (w .1 .0))
@@ -167,8 +146,8 @@ holders (node g k s) = (
 )
 
 -- what the walk meets in a forest are such nodes of it
-pub met-holders : (is-fail : ℕ → Bool) (v : Want) (f : Forest) → For-all (λ h. Holder h f) (met (takes is-fail v f))
+pub met-holders : (is-fail : ℕ → Bool) (v : Want) (f : Forest) → Each (λ h. Holder h f) (met (takes is-fail v f))
 met-holders is-fail v f = takes-met (λ h. Holder h f) is-fail f (holders f) v
 
-pub bound-holders : (r : ℕ) (f : Forest) → For-all (λ h. Holder h f) (met (binds r f))
+pub bound-holders : (r : ℕ) (f : Forest) → Each (λ h. Holder h f) (met (binds r f))
 bound-holders r f = binds-met (λ h. Holder h f) r f (holders f)

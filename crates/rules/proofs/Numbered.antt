@@ -8,9 +8,10 @@ use Rattle.tree.specs.Forest.{Head, headAt, forestOf}
 use Rattle.tree.specs.code.Part.{Part}
 use Rattle.tree.proofs.Laws.{forest-none, forest-node, ended, induct}
 use Rattle.tree.proofs.Fields.{number-own}
+use Rattle.rules.specs.Record.{Each}
 use Rattle.rules.specs.Order.{Want, takes}
 use Rattle.rules.specs.Names.{met}
-use Rattle.rules.proofs.Meets.{For-all, Within, takes-met}
+use Rattle.rules.proofs.Meets.{Within, takes-met}
 
 -- the head of a node below n, with its own number
 abbrev pub Own : List ℕ → ℕ → Head → Type 0
@@ -27,5 +28,5 @@ module _ (t : List ℕ) (n : ℕ) (few : n ≤ 1024) where
       rw (forest-node p lt) (((λ x. o), (λ x. o)), (a (omega arith), c b))) p
 
 -- EVERY NODE MET in a file is the node of its number.
-pub met-own : {t : List ℕ} {n : ℕ} → Part t 0 n → (is-fail : ℕ → Bool) (v : Want) → For-all (Own t n) (met (takes is-fail v (forestOf t 0 n)))
+pub met-own : {t : List ℕ} {n : ℕ} → Part t 0 n → (is-fail : ℕ → Bool) (v : Want) → Each (Own t n) (met (takes is-fail v (forestOf t 0 n)))
 met-own {t} {n} p is-fail v = takes-met (Own t n) is-fail (forestOf t 0 n) (part-own t n (p .few) p (omega arith)) v

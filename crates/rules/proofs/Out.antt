@@ -2,12 +2,13 @@
 use Prim.Native.Nat.{ℕ, suc, _+_, _≤_}
 use native.Mathlib.Omega.{arith}
 use mathlib.Core.Path.{_≡_, refl, sym, ap, subst, _∙_}
-use mathlib.Core.Bool.{Bool, true, false, cond, _||_, not}
+use mathlib.Core.Bool.{Bool, true, false, _||_, not}
 use mathlib.Core.List.{List, [], _∷_, _++_}
 use mathlib.Core.Option.{Option, none, some}
-use lib.Dec.{eqb, leb, T}
+use lib.Dec.{leb, T}
 use lib.ListN.{length, length-append}
 use Rattle.tree.specs.Forest.{Spot, Head, Forest, Forest.none as leaf, node}
+use Rattle.rules.specs.Record.{Each}
 use Rattle.rules.specs.Order.{Sort, Cmd, skip, _⨟_, use-of, set-of, stop, branch, loop, scope, of-role, body}
 use Rattle.rules.specs.Names.{names, met, Abort, abort-of, unloop, same, Warning, warned, warn-new, warn, warn-if, warn-all, keep, unused, Found, nowhere, surely, perhaps}
 use Rattle.rules.specs.code.Marks.{put, inside, add, adds, Level, Absent, Maybe, Definitely, Entry, Chamber, House, level-at, resets, has-entry, set-room, marks, mark-room, cannot-room, unbinds-room, stop-room, Looked, look-step, look-out, use-away, use-level, Note, notes, later-notes, restore, merge, back-room, join-room, branch-house, same-house, round-house, rounds-house, spared-room, idle-room, sets-name, farewell-room, passed-room, enter-house, leave-house, tour, undefined-room, names-tour, nodes, mid, start, Every, Every-rounds}
@@ -15,8 +16,9 @@ use Rattle.rules.proofs.Spots.{same-sound, same-exact}
 use Rattle.rules.proofs.Bounds.{every-map, Plain, plain-add, pigeon, inside-left, inside-right}
 use Rattle.rules.proofs.Marked.{tour-tree}
 use Rattle.rules.proofs.Meets as Meets
-use Rattle.rules.proofs.Meets.{For-all, all-left, all-right, takes-met}
+use Rattle.rules.proofs.Meets.{takes-met}
 use Rattle.rules.proofs.Bools.{or-left, or-right, or-case}
+use Rattle.rules.proofs.Each.{each-left, each-right}
 
 -- the spots of warnings
 abbrev spots-of : List Warning → List Spot
@@ -41,27 +43,26 @@ warn-spots c s ws = new-spots c s ws (warned s ws) ∙ ap (λ (b : Bool). put b 
 -- ---- lists of which each spot is such a fst
 
 module _ (p : Spot → Bool) where
-  abbrev Each : List Spot → Type 0
-  Each [] = Unit {0}
-  Each (s ∷ ss) = T (p s) × Each ss
+  abbrev Such : List Spot → Type 0
+  Such ss = Each (λ s. T (p s)) ss
 
-  each-last : (s : Spot) (l : List Spot) → T (p s) → Each l → Each (l ++ (s ∷ []))
+  each-last : (s : Spot) (l : List Spot) → T (p s) → Such l → Such (l ++ (s ∷ []))
   each-last s [] t h = (t, tt)
   each-last s (a ∷ l) t h = (h .0, each-last s l t (h .1))
 
-  each-put : (b : Bool) (s : Spot) (l : List Spot) → T (p s) → Each l → Each (put b s l)
+  each-put : (b : Bool) (s : Spot) (l : List Spot) → T (p s) → Such l → Such (put b s l)
   each-put true s l t h = h
   each-put false s l t h = each-last s l t h
 
-  each-adds : (k l : List Spot) → Each k → Each l → Each (adds same k l)
+  each-adds : (k l : List Spot) → Such k → Such l → Such (adds same k l)
   each-adds [] l g h = h
   each-adds (a ∷ k) l g h = each-adds k (add same a l) (g .1) (each-put (inside same a l) a l (g .0) h)
 
-  each-keep : (q : Spot → Bool) (l : List Spot) → Each l → Each (keep q l)
+  each-keep : (q : Spot → Bool) (l : List Spot) → Such l → Such (keep q l)
   each-keep q [] h = tt
   each-keep q (s ∷ l) h = go (q s) (each-keep q l (h .1))
     where
-      go : (b : Bool) → Each (keep q l) → Each (elim b as (λ x. List Spot) [ true ↦ s ∷ keep q l | false ↦ keep q l ])
+      go : (b : Bool) → Such (keep q l) → Such (elim b as (λ x. List Spot) [ true ↦ s ∷ keep q l | false ↦ keep q l ])
       go true g = (h .0, g)
       go false g = g
 
@@ -91,8 +92,8 @@ module _ (p : Spot → Bool) where
   entries-merge a b ns (e ∷ es) h = (h .0, entries-merge a b (later-notes ns) es (h .1))
 
   record In (r : Chamber) : Type 0 where
-    cant : Each (r .cant)
-    unbound : Each (r .unbound)
+    cant : Such (r .cant)
+    unbound : Such (r .unbound)
     entries : Entries (r .entries)
 
   abbrev All : List Chamber → Type 0
@@ -101,12 +102,12 @@ module _ (p : Spot → Bool) where
 
   -- warnings each at such a spot, none twice
   record Told (ws : List Warning) : Type 0 where
-    here : Each (spots-of ws)
+    here : Such (spots-of ws)
     once : Plain same (spots-of ws)
 
   told-warn : (c : ℕ) (s : Spot) (ws : List Warning) → T (p s) → Told ws → Told (warn c s ws)
   told-warn c s ws t h = record {
-    here = subst Each (sym (warn-spots c s ws)) (each-put (inside same s (spots-of ws)) s (spots-of ws) t (h .here));
+    here = subst Such (sym (warn-spots c s ws)) (each-put (inside same s (spots-of ws)) s (spots-of ws) t (h .here));
     once = subst (Plain same) (sym (warn-spots c s ws)) (plain-add same same-sound same-exact s (spots-of ws) (h .once));
   }
 
@@ -114,7 +115,7 @@ module _ (p : Spot → Bool) where
   told-if true c s ws t h = told-warn c s ws t h
   told-if false c s ws t h = h
 
-  told-all : (c : ℕ) (q : Spot → Bool) (l : List Spot) (ws : List Warning) → Each l → Told ws → Told (warn-all c q l ws)
+  told-all : (c : ℕ) (q : Spot → Bool) (l : List Spot) (ws : List Warning) → Such l → Told ws → Told (warn-all c q l ws)
   told-all c q [] ws g h = h
   told-all c q (s ∷ l) ws g h = told-all c q l (warn-if (q s) c s ws) (g .1) (told-if (q s) c s ws (g .0) h)
 
@@ -156,7 +157,7 @@ module _ (p : Spot → Bool) where
     entries = h .entries;
   }
 
-  in-unbinds : (l : List Spot) (r : Chamber) → Each l → In r → In (unbinds-room l r)
+  in-unbinds : (l : List Spot) (r : Chamber) → Such l → In r → In (unbinds-room l r)
   in-unbinds l r g h = record { cant = h .cant; unbound = each-adds l (r .unbound) g (h .unbound); entries = h .entries }
 
   in-stop : (a : Abort) (r : Chamber) → In r → In (stop-room a r)
@@ -247,18 +248,18 @@ module _ (p : Spot → Bool) where
   At h = T (p (h .spot))
 
   abbrev pub Of : Cmd → Type 0
-  Of c = For-all At (met c)
+  Of c = Each At (met c)
 
   module _ (u : ℕ → Bool) where
     keeps-tour : (c : Cmd) (d : ℕ) → Of c → Stays (tour u d c)
     keeps-tour skip d o m h = h
     keeps-tour (a ⨟ b) d o m h =
-        keeps-tour b d (all-right At (met a) (met b) o) (tour u d a m) (keeps-tour a d (all-left At (met a) (met b) o) m h)
+        keeps-tour b d (each-right At (met a) (met b) o) (tour u d a m) (keeps-tour a d (each-left At (met a) (met b) o) m h)
     keeps-tour (use-of g) d o m h = keeps-use (g .spot) m (level-at (g .spot .value) (m .here .entries)) (o .0) h
     keeps-tour (set-of x g) d o m h = record { here = in-set x (g .spot) (m .here) (o .0) (h .here); above = h .above; out = h .out }
     keeps-tour (stop w) d o m h = record { here = in-stop (abort-of w) (m .here) (h .here); above = h .above; out = h .out }
-    keeps-tour (branch a b) d o m h = keeps-branch (tour u d a) (tour u d b) (keeps-tour a d (all-left At (met a) (met b) o))
-        (keeps-tour b d (all-right At (met a) (met b) o)) m h
+    keeps-tour (branch a b) d o m h = keeps-branch (tour u d a) (tour u d b) (keeps-tour a d (each-left At (met a) (met b) o))
+        (keeps-tour b d (each-right At (met a) (met b) o)) m h
     keeps-tour (loop c) d o m h = keeps-rounds (leb (suc d) 5) (tour u (suc d) c) (keeps-tour c (suc d) o) m h
     keeps-tour (scope c) d o m h =
         let r = keeps-tour c d o (enter-house m) (keeps-enter m h) in
@@ -281,15 +282,15 @@ module _ (p : Spot → Bool) where
     keeps-every : (c : Cmd) (d : ℕ) → Of c → (m : House) → Keeps m → Every u Keeps d c m
     keeps-every skip d o m h = h
     keeps-every (a ⨟ b) d o m h =
-        let l = all-left At (met a) (met b) o in
-        (keeps-every a d l m h, keeps-every b d (all-right At (met a) (met b) o) (tour u d a m) (keeps-tour a d l m h))
+        let l = each-left At (met a) (met b) o in
+        (keeps-every a d l m h, keeps-every b d (each-right At (met a) (met b) o) (tour u d a m) (keeps-tour a d l m h))
     keeps-every (use-of s) d o m h = (h, keeps-tour (use-of s) d o m h)
     keeps-every (set-of x s) d o m h = (h, keeps-tour (set-of x s) d o m h)
     keeps-every (stop w) d o m h = (h, keeps-tour (stop w) d o m h)
     keeps-every (branch a b) d o m h =
-        let l = all-left At (met a) (met b) o in (
+        let l = each-left At (met a) (met b) o in (
           keeps-every a d l m h,
-          keeps-every b d (all-right At (met a) (met b) o) (mid m (tour u d a m)) (keeps-mid m (tour u d a m) (keeps-tour a d l m h)),
+          keeps-every b d (each-right At (met a) (met b) o) (mid m (tour u d a m)) (keeps-mid m (tour u d a m) (keeps-tour a d l m h)),
           keeps-tour (branch a b) d o m h,
         )
     keeps-every (loop c) d o m h =
@@ -330,7 +331,7 @@ within K (node h k s) g = (
   ),
 )
 
-each-inside : (K l : List Spot) → Each (is-of K) l → (a : Spot) → T (inside same a l) → T (inside same a K)
+each-inside : (K l : List Spot) → Such (is-of K) l → (a : Spot) → T (inside same a l) → T (inside same a K)
 each-inside K [] h a t = absurd t
 each-inside K (s ∷ l) h a t =
     or-case (same a s) (inside same a l) (λ e. subst (λ (x : Spot). T (inside same x K)) (sym (same-sound a s e)) (h .0))
@@ -364,18 +365,18 @@ told-tour p u g c o =
     told-undefined p g (m .here) (farewell-room u true (m .here) (m .out)) (k .here)
     (told-farewell p u true (m .here) (m .out) (k .here) (k .out))
 
-each-told : (p : Spot → Bool) (ws : List Warning) → Each p (spots-of ws) → For-all (λ w. T (p (w .spot))) ws
+each-told : (p : Spot → Bool) (ws : List Warning) → Such p (spots-of ws) → Each (λ w. T (p (w .spot))) ws
 each-told p [] h = tt
 each-told p (w ∷ ws) h = (h .0, each-told p ws (h .1))
 
 -- NAMES: what holds of every spot that the walk meets holds of every warning's
-pub tour-hold : (p : Spot → Bool) (u : ℕ → Bool) (g : Option (ℕ → Bool)) (c : Cmd) → Of p c → For-all (λ w. T (p (w .spot))) (names-tour u g c)
+pub tour-hold : (p : Spot → Bool) (u : ℕ → Bool) (g : Option (ℕ → Bool)) (c : Cmd) → Of p c → Each (λ w. T (p (w .spot))) (names-tour u g c)
 tour-hold p u g c o = each-told p (names-tour u g c) (told-tour p u g c o .here)
 
 pub names-hold : (p : Spot → Bool) (u is-fail : ℕ → Bool) (g : Option (ℕ → Bool)) (f : Forest) → Of p (body is-fail f)
-    → For-all (λ w. T (p (w .spot))) (names u is-fail g f)
+    → Each (λ w. T (p (w .spot))) (names u is-fail g f)
 names-hold p u is-fail g f o =
-    subst (λ (ws : List Warning). For-all (λ w. T (p (w .spot))) ws) (tour-tree u is-fail g f) (tour-hold p u g (body is-fail f) o)
+    subst (λ (ws : List Warning). Each (λ w. T (p (w .spot))) ws) (tour-tree u is-fail g f) (tour-hold p u g (body is-fail f) o)
 
 module _ (u is-fail : ℕ → Bool) (x : Forest) where
   own : Of (is-of (places x)) (body is-fail x)

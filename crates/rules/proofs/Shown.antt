@@ -9,7 +9,7 @@ use mathlib.Core.Option.{none}
 use native.Mathlib.Omega.{arith}
 use lib.Dec.{eqb, T}
 use Rattle.tree.specs.Search.{first as first-of-places}
-use Rattle.tree.specs.Bytes.{u16At, u32At, nodeCount, valueCount, globalCount, kindAt, roleAt, sizeAt, beginAt, endAt, valueAt, lastAt}
+use Rattle.tree.specs.Bytes.{u16At, u32At, versionOf, nodeCount, valueCount, globalCount, kindAt, roleAt, sizeAt, beginAt, endAt, valueAt, lastAt}
 use Rattle.tree.specs.Forest.{Head, Forest, Forest.none as leaf, node, spotAt, headAt, forestIn, forestOf, treeOf}
 use Rattle.tree.specs.Values.{offset, formed, precedes}
 use Rattle.tree.specs.Table.{tableOf, spells, wrong-value, wrong-global}
@@ -411,8 +411,8 @@ swapped-list = refl
 
 -- A FILE'S BYTES: 01's for i in xs with print(a), a = 1 inside (Known). It is judged valid, its tree meets the premises, a run reaches
 -- the use of a in the first round, and so the use is told; under 6, as the list shows.
-pub bytes-valid : judged looped-file ≡ Valid (record { nodes = 12; values = 5; names = 4; globals = 65535; rest = 228 })
-unfolding judged checks factsOf first-of-places u16At u32At nodeCount valueCount globalCount kindAt roleAt sizeAt beginAt endAt valueAt lastAt spotAt headAt forestIn forestOf treeOf offset formed precedes wrong-value wrong-global parentIn parentOf limitOf known wrong-node depthIn depthOf too-deep classOf slotOf all-stand many all-filled in-pairs for-first in-order kids-fit rootOk wrong-children
+pub bytes-valid : judged looped-file ≡ Valid (record { version = 1; nodes = 12; values = 5; names = 4; globals = 65535; rest = 228 })
+unfolding judged checks factsOf first-of-places u16At u32At versionOf nodeCount valueCount globalCount kindAt roleAt sizeAt beginAt endAt valueAt lastAt spotAt headAt forestIn forestOf treeOf offset formed precedes wrong-value wrong-global parentIn parentOf limitOf known wrong-node depthIn depthOf too-deep classOf slotOf all-stand many all-filled in-pairs for-first in-order kids-fit rootOk wrong-children
 bytes-valid = refl
 
 -- its tree, drawn, each node with its number
@@ -453,7 +453,7 @@ bytes-own = subst (λ (f : Forest). T (own 0 (body (spells (tableOf looped-file)
     drawn-own
 
 pub bytes-told : Told printed-a (names-list looped-file)
-bytes-told = the-demand looped-file (record { nodes = 12; values = 5; names = 4; globals = 65535; rest = 228 }) bytes-valid bytes-premises
+bytes-told = the-demand looped-file (record { version = 1; nodes = 12; values = 5; names = 4; globals = 65535; rest = 228 }) bytes-valid bytes-premises
     .unset of-module printed-a bytes-own bytes-reached
 
 pub bytes-list : names-list looped-file ≡ named-at 6 printed-a ∷ []

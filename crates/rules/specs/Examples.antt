@@ -1,5 +1,5 @@
 -- More files with their lists, beside the starred ones (Known): every code that those don't show, the five loops that are taken twice,
--- 01's 47 bytes, both reasons of 02, §11, whole floats of every size (02, §2), nodes that share span and name (02, §4), and each limit at its number and one past it.
+-- 01's 47 bytes, both reasons of 02, §11, whole floats of every size (02, §2), both versions (02, §9), nodes that share span and name (02, §4), and each limit at its number and one past it.
 -- Assumes nothing.
 use Prim.Native.Nat.{ℕ, zero, suc}
 use mathlib.Core.Bool.{Bool, true, _&&_}
@@ -9,9 +9,8 @@ use lib.ListN.{length, replicate}
 use Rattle.tree.specs.Judge.{judged, numberOf, placeOf}
 use Rattle.tree.specs.declared.Judged.{Judged}
 use Rattle.tree.specs.declared.Judged.the-variants.{Valid, Refused}
-use Rattle.tree.specs.Bytes.{version}
-use Rattle.tree.specs.Written.{u16, node-of, value-of, joined, headed, file}
-use Rattle.rules.specs.Known.{Row, always}
+use Rattle.tree.specs.Written.{u16, node-of, value-of, joined, headed, file-of, file}
+use Rattle.rules.specs.Known.{Row, in-both}
 
 -- a header, with nothing after it
 abbrev pub header : ℕ → ℕ → ℕ → ℕ → List ℕ
@@ -19,7 +18,7 @@ header v n nv g = headed v n nv g []
 
 -- a file with globals given: their value numbers
 abbrev pub file-given : List ℕ → List (List ℕ) → List (List ℕ) → List ℕ
-file-given gs ns vs = headed version (length ns) (length vs) (length gs) (joined ns ++ (joined vs ++ joined (map u16 gs)))
+file-given gs ns vs = headed 1 (length ns) (length vs) (length gs) (joined ns ++ (joined vs ++ joined (map u16 gs)))
 
 -- ---- the files
 
@@ -442,6 +441,84 @@ six-loops =
     ∷ value-of 3 (0x01 ∷ [])
     ∷ [])
 
+-- Three files in a version (02, §9).
+
+-- load("rates.star", "sidereal")
+--
+-- sidereal = sidereal
+-- solar = 15
+-- solar = solar
+-- sidereal = sidereal
+-- (values: solar, sidereal, 15); of examples/scripts, after a first line "# dialect: 2"
+abbrev pub re-export : ℕ → List ℕ
+re-export version =
+    file-of version
+    (node-of 8 0 15 13 109 65535
+    ∷ node-of 13 0 2 13 43 65535
+    ∷ node-of 47 0 1 32 42 1
+    ∷ node-of 6 0 3 45 64 65535
+    ∷ node-of 40 5 1 45 53 1
+    ∷ node-of 20 4 1 56 64 1
+    ∷ node-of 6 0 3 65 75 65535
+    ∷ node-of 40 5 1 65 70 0
+    ∷ node-of 21 4 1 73 75 2
+    ∷ node-of 6 0 3 76 89 65535
+    ∷ node-of 40 5 1 76 81 0
+    ∷ node-of 20 4 1 84 89 0
+    ∷ node-of 6 0 3 90 109 65535
+    ∷ node-of 40 5 1 90 98 1
+    ∷ node-of 20 4 1 101 109 1
+    ∷ [])
+    (value-of 0 (0x73 ∷ 0x6f ∷ 0x6c ∷ 0x61 ∷ 0x72 ∷ [])
+    ∷ value-of 0 (0x73 ∷ 0x69 ∷ 0x64 ∷ 0x65 ∷ 0x72 ∷ 0x65 ∷ 0x61 ∷ 0x6c ∷ [])
+    ∷ value-of 3 (0x0f ∷ [])
+    ∷ [])
+
+-- load("m", "x")
+-- x = 1
+-- x = x
+-- x = x
+-- (values: x, 1)
+abbrev pub set-between : ℕ → List ℕ
+set-between version =
+    file-of version
+    (node-of 8 0 12 0 32 65535
+    ∷ node-of 13 0 2 0 14 65535
+    ∷ node-of 47 0 1 10 13 0
+    ∷ node-of 6 0 3 15 20 65535
+    ∷ node-of 40 5 1 15 16 0
+    ∷ node-of 21 4 1 19 20 1
+    ∷ node-of 6 0 3 21 26 65535
+    ∷ node-of 40 5 1 21 22 0
+    ∷ node-of 20 4 1 25 26 0
+    ∷ node-of 6 0 3 27 32 65535
+    ∷ node-of 40 5 1 27 28 0
+    ∷ node-of 20 4 1 31 32 0
+    ∷ [])
+    (value-of 0 (0x78 ∷ [])
+    ∷ value-of 3 (0x01 ∷ [])
+    ∷ [])
+
+-- x = x
+-- load("m", "x")
+-- x = x
+-- (values: x)
+abbrev pub loaded-later : ℕ → List ℕ
+loaded-later version =
+    file-of version
+    (node-of 8 0 9 0 26 65535
+    ∷ node-of 6 0 3 0 5 65535
+    ∷ node-of 40 5 1 0 1 0
+    ∷ node-of 20 4 1 4 5 0
+    ∷ node-of 13 0 2 6 20 65535
+    ∷ node-of 47 0 1 16 19 0
+    ∷ node-of 6 0 3 21 26 65535
+    ∷ node-of 40 5 1 21 22 0
+    ∷ node-of 20 4 1 25 26 0
+    ∷ [])
+    (value-of 0 (0x78 ∷ [])
+    ∷ [])
+
 -- Three files in which nodes share span and name, and the walk's order is not the file's.
 
 -- x = x: the target (node 1) and the value (node 2), which is met first, share their span
@@ -499,22 +576,24 @@ result-last =
 -- the later one is held against; 02, §2: strict, a whole float equals its integer at every size, an infinity only itself;
 -- "twice while the count of enclosing for statements (itself counted, through defs too) is at most 5, once from 6": the for in the def is the
 -- fifth, and its second round finds a set in the first (6); it is the sixth, and its one round finds no a (4);
+-- 02, §9: "x = x, where x was first defined by a load, is then free each time": of a name that an assign defined first it isn't in either version,
+-- of a loaded name that is set in between it is, and where a load comes after x = x neither the load nor what follows is free;
 -- 02, §4: "the one that the names walk meets first", where the file's first is node 1, 2 and 3
 abbrev pub examples : List Row
 examples =
-    always (file one-literal value-one) (13 ∷ 0 ∷ 1 ∷ 65535 ∷ 0 ∷ 0 ∷ 0 ∷ 0 ∷ 1 ∷ 65535 ∷ [])
-    ∷ always (file-given [] one-literal value-one) (13 ∷ 0 ∷ 1 ∷ 65535 ∷ 0 ∷ 0 ∷ 0 ∷ 0 ∷ 1 ∷ 65535 ∷ [])
-    ∷ always unused-load (1 ∷ 19 ∷ 29 ∷ 0 ∷ 0 ∷ 0 ∷ 0 ∷ 0 ∷ 1 ∷ 65535 ∷ [])
-    ∷ always unused-argument (3 ∷ 6 ∷ 7 ∷ 1 ∷ 0 ∷ 0 ∷ 0 ∷ 0 ∷ 2 ∷ 65535 ∷ [])
-    ∷ always using-unassigned (4 ∷ 6 ∷ 7 ∷ 0 ∷ 0 ∷ 0 ∷ 0 ∷ 0 ∷ 4 ∷ 65535 ∷ [])
-    ∷ always using-undefined (5 ∷ 23 ∷ 24 ∷ 0 ∷ 0 ∷ 0 ∷ 0 ∷ 0 ∷ 3 ∷ 65535 ∷ [])
-    ∷ always missing-return-expression (7 ∷ 28 ∷ 34 ∷ 1 ∷ 0 ∷ 47 ∷ 39 ∷ 47 ∷ 6 ∷ 0 ∷ [])
-    ∷ always redundant-return (10 ∷ 13 ∷ 19 ∷ 65535 ∷ 0 ∷ 0 ∷ 0 ∷ 0 ∷ 3 ∷ 65535 ∷ [])
-    ∷ always redundant-continue (11 ∷ 17 ∷ 25 ∷ 65535 ∷ 0 ∷ 0 ∷ 0 ∷ 0 ∷ 4 ∷ 65535 ∷ [])
-    ∷ always misplaced-load (12 ∷ 8 ∷ 38 ∷ 65535 ∷ 0 ∷ 0 ∷ 0 ∷ 0 ∷ 4 ∷ 65535 ∷ [])
-    ∷ always incompatible-type-check (14 ∷ 6 ∷ 20 ∷ 1 ∷ 0 ∷ 0 ∷ 0 ∷ 0 ∷ 3 ∷ 65535 ∷ [])
-    ∷ always ident-as-statement (17 ∷ 0 ∷ 1 ∷ 0 ∷ 0 ∷ 0 ∷ 0 ∷ 0 ∷ 1 ∷ 65535 ∷ [])
-    ∷ always two-reasons
+    in-both (file one-literal value-one) (13 ∷ 0 ∷ 1 ∷ 65535 ∷ 0 ∷ 0 ∷ 0 ∷ 0 ∷ 1 ∷ 65535 ∷ [])
+    ∷ in-both (file-given [] one-literal value-one) (13 ∷ 0 ∷ 1 ∷ 65535 ∷ 0 ∷ 0 ∷ 0 ∷ 0 ∷ 1 ∷ 65535 ∷ [])
+    ∷ in-both unused-load (1 ∷ 19 ∷ 29 ∷ 0 ∷ 0 ∷ 0 ∷ 0 ∷ 0 ∷ 1 ∷ 65535 ∷ [])
+    ∷ in-both unused-argument (3 ∷ 6 ∷ 7 ∷ 1 ∷ 0 ∷ 0 ∷ 0 ∷ 0 ∷ 2 ∷ 65535 ∷ [])
+    ∷ in-both using-unassigned (4 ∷ 6 ∷ 7 ∷ 0 ∷ 0 ∷ 0 ∷ 0 ∷ 0 ∷ 4 ∷ 65535 ∷ [])
+    ∷ in-both using-undefined (5 ∷ 23 ∷ 24 ∷ 0 ∷ 0 ∷ 0 ∷ 0 ∷ 0 ∷ 3 ∷ 65535 ∷ [])
+    ∷ in-both missing-return-expression (7 ∷ 28 ∷ 34 ∷ 1 ∷ 0 ∷ 47 ∷ 39 ∷ 47 ∷ 6 ∷ 0 ∷ [])
+    ∷ in-both redundant-return (10 ∷ 13 ∷ 19 ∷ 65535 ∷ 0 ∷ 0 ∷ 0 ∷ 0 ∷ 3 ∷ 65535 ∷ [])
+    ∷ in-both redundant-continue (11 ∷ 17 ∷ 25 ∷ 65535 ∷ 0 ∷ 0 ∷ 0 ∷ 0 ∷ 4 ∷ 65535 ∷ [])
+    ∷ in-both misplaced-load (12 ∷ 8 ∷ 38 ∷ 65535 ∷ 0 ∷ 0 ∷ 0 ∷ 0 ∷ 4 ∷ 65535 ∷ [])
+    ∷ in-both incompatible-type-check (14 ∷ 6 ∷ 20 ∷ 1 ∷ 0 ∷ 0 ∷ 0 ∷ 0 ∷ 3 ∷ 65535 ∷ [])
+    ∷ in-both ident-as-statement (17 ∷ 0 ∷ 1 ∷ 0 ∷ 0 ∷ 0 ∷ 0 ∷ 0 ∷ 1 ∷ 65535 ∷ [])
+    ∷ in-both two-reasons
     (16 ∷ 5 ∷ 6 ∷ 1 ∷ 11 ∷ 12 ∷ 1 ∷ 0 ∷ 3 ∷ 5
     ∷ 16 ∷ 17 ∷ 18 ∷ 4 ∷ 23 ∷ 26 ∷ 2 ∷ 0 ∷ 7 ∷ 9
     ∷ 16 ∷ 23 ∷ 26 ∷ 4 ∷ 31 ∷ 34 ∷ 1 ∷ 0 ∷ 9 ∷ 11
@@ -536,11 +615,37 @@ examples =
           ∷ 16 ∷ 160 ∷ 165 ∷ 11 ∷ 170 ∷ 175 ∷ 1 ∷ 0 ∷ 33 ∷ 35
           ∷ []);
     }
-    ∷ always five-loops (6 ∷ 122 ∷ 123 ∷ 1 ∷ 0 ∷ 0 ∷ 0 ∷ 0 ∷ 21 ∷ 65535 ∷ [])
-    ∷ always six-loops (4 ∷ 149 ∷ 150 ∷ 1 ∷ 0 ∷ 0 ∷ 0 ∷ 0 ∷ 24 ∷ 65535 ∷ [])
-    ∷ always value-first (4 ∷ 0 ∷ 1 ∷ 0 ∷ 0 ∷ 0 ∷ 0 ∷ 0 ∷ 2 ∷ 65535 ∷ [])
-    ∷ always default-first (3 ∷ 6 ∷ 7 ∷ 1 ∷ 0 ∷ 0 ∷ 0 ∷ 0 ∷ 3 ∷ 65535 ∷ [])
-    ∷ always result-last (3 ∷ 8 ∷ 9 ∷ 0 ∷ 0 ∷ 0 ∷ 0 ∷ 0 ∷ 6 ∷ 65535 ∷ [])
+    ∷ in-both five-loops (6 ∷ 122 ∷ 123 ∷ 1 ∷ 0 ∷ 0 ∷ 0 ∷ 0 ∷ 21 ∷ 65535 ∷ [])
+    ∷ in-both six-loops (4 ∷ 149 ∷ 150 ∷ 1 ∷ 0 ∷ 0 ∷ 0 ∷ 0 ∷ 24 ∷ 65535 ∷ [])
+    ∷ in-both (re-export 1)
+    (15 ∷ 76 ∷ 81 ∷ 0 ∷ 65 ∷ 70 ∷ 0 ∷ 0 ∷ 10 ∷ 7
+    ∷ 15 ∷ 90 ∷ 98 ∷ 1 ∷ 32 ∷ 42 ∷ 0 ∷ 0 ∷ 13 ∷ 2
+    ∷ [])
+    ∷ in-both (re-export 2) (15 ∷ 76 ∷ 81 ∷ 0 ∷ 65 ∷ 70 ∷ 0 ∷ 0 ∷ 10 ∷ 7 ∷ [])
+    ∷ in-both (set-between 1)
+    (1 ∷ 10 ∷ 13 ∷ 0 ∷ 0 ∷ 0 ∷ 0 ∷ 0 ∷ 2 ∷ 65535
+    ∷ 15 ∷ 15 ∷ 16 ∷ 0 ∷ 10 ∷ 13 ∷ 0 ∷ 0 ∷ 4 ∷ 2
+    ∷ 15 ∷ 27 ∷ 28 ∷ 0 ∷ 10 ∷ 13 ∷ 0 ∷ 0 ∷ 10 ∷ 2
+    ∷ [])
+    ∷ in-both (set-between 2)
+    (1 ∷ 10 ∷ 13 ∷ 0 ∷ 0 ∷ 0 ∷ 0 ∷ 0 ∷ 2 ∷ 65535
+    ∷ 15 ∷ 15 ∷ 16 ∷ 0 ∷ 10 ∷ 13 ∷ 0 ∷ 0 ∷ 4 ∷ 2
+    ∷ [])
+    ∷ in-both (loaded-later 1)
+    (4 ∷ 4 ∷ 5 ∷ 0 ∷ 0 ∷ 0 ∷ 0 ∷ 0 ∷ 3 ∷ 65535
+    ∷ 12 ∷ 6 ∷ 20 ∷ 65535 ∷ 0 ∷ 0 ∷ 0 ∷ 0 ∷ 4 ∷ 65535
+    ∷ 15 ∷ 16 ∷ 19 ∷ 0 ∷ 0 ∷ 1 ∷ 0 ∷ 0 ∷ 5 ∷ 2
+    ∷ 15 ∷ 21 ∷ 22 ∷ 0 ∷ 0 ∷ 1 ∷ 0 ∷ 0 ∷ 7 ∷ 2
+    ∷ [])
+    ∷ in-both (loaded-later 2)
+    (4 ∷ 4 ∷ 5 ∷ 0 ∷ 0 ∷ 0 ∷ 0 ∷ 0 ∷ 3 ∷ 65535
+    ∷ 12 ∷ 6 ∷ 20 ∷ 65535 ∷ 0 ∷ 0 ∷ 0 ∷ 0 ∷ 4 ∷ 65535
+    ∷ 15 ∷ 16 ∷ 19 ∷ 0 ∷ 0 ∷ 1 ∷ 0 ∷ 0 ∷ 5 ∷ 2
+    ∷ 15 ∷ 21 ∷ 22 ∷ 0 ∷ 0 ∷ 1 ∷ 0 ∷ 0 ∷ 7 ∷ 2
+    ∷ [])
+    ∷ in-both value-first (4 ∷ 0 ∷ 1 ∷ 0 ∷ 0 ∷ 0 ∷ 0 ∷ 0 ∷ 2 ∷ 65535 ∷ [])
+    ∷ in-both default-first (3 ∷ 6 ∷ 7 ∷ 1 ∷ 0 ∷ 0 ∷ 0 ∷ 0 ∷ 3 ∷ 65535 ∷ [])
+    ∷ in-both result-last (3 ∷ 8 ∷ 9 ∷ 0 ∷ 0 ∷ 0 ∷ 0 ∷ 0 ∷ 6 ∷ 65535 ∷ [])
     ∷ []
 
 -- ---- the limits
@@ -566,15 +671,18 @@ nested (suc n) = node-of 8 0 (suc n) 0 0 65535 ∷ nested n
 abbrev pub of-value : List ℕ → List ℕ
 of-value v = file (node-of 3 0 1 0 0 65535 ∷ []) (v ∷ [])
 
--- Under 11 bytes: 1. "version not 1": 2. "nodes 0 or over 1,024; values over 512; globals over 512 and not 65535": 3; at their numbers
+-- Under 11 bytes: 1. 02, §9: "2 is given for versions other than 1 and 2". "nodes 0 or over 1,024; values over 512; globals over 512 and not 65535": 3; at their numbers
 -- these headers, with nothing after them, are refused for their sections only. A value of 255 bytes and of 256, an integer of 64
 -- and of 65, a depth of 48 and of 49.
 abbrev pub borders : List Border
 borders =
     refuses 1 0 (83 ∷ 76 ∷ 84 ∷ 1 ∷ 0 ∷ 1 ∷ 0 ∷ 0 ∷ 0 ∷ 0 ∷ [])
     ∷ refuses 2 0 (header 0 1 0 0)
-    ∷ refuses 2 0 (header 2 1 0 0)
+    ∷ refuses 2 0 (header 3 1 0 0)
+    ∷ refuses 2 0 (header 258 1 0 0)
+    ∷ refuses 2 0 (header 65535 1 0 0)
     ∷ refuses 3 0 (header 1 0 0 0)
+    ∷ refuses 3 0 (header 2 0 0 0)
     ∷ refuses 4 0 (header 1 1024 0 0)
     ∷ refuses 3 0 (header 1 1025 0 0)
     ∷ refuses 4 0 (header 1 1 512 0)
@@ -589,6 +697,7 @@ borders =
     ∷ refuses 5 0 (of-value (value-of 3 (replicate 65 255)))
     ∷ accepts (file (nested 48) [])
     ∷ refuses 8 48 (file (nested 49) [])
+    ∷ accepts (file-of 2 (nested 1) [])
     ∷ []
 
 abbrev pub says : Judged → ℕ → ℕ → Bool

@@ -1,13 +1,15 @@
 -- 01, "Incompatible and dubious", codes 14 and 15: "14 is walked before 15". Assumes nothing.
-use Prim.Native.Nat.{ℕ, suc}
-use mathlib.Core.Bool.{Bool, true, false, cond, _&&_, _||_}
+use Prim.Native.Nat.{ℕ}
+use mathlib.Core.Bool.{Bool, true, false, cond, not, _&&_, _||_}
 use mathlib.Core.List.{List, [], _∷_, _++_}
 use mathlib.Core.Option.{Option, none, some}
 use lib.Dec.{eqb}
-use Rattle.tree.specs.Bytes.{ascii}
+use Rattle.tree.specs.Bytes.{ascii, versionOf, pick}
 use Rattle.tree.specs.Forest.{Head, Forest, Forest.none as leaf, node, treeOf}
 use Rattle.tree.specs.Values.{Value}
 use Rattle.tree.specs.Table.{tableOf, spells}
+use Rattle.rules.specs.declared.Allowance.{Allowance}
+use Rattle.rules.specs.declared.Allowance.the-variants.{Once, Always}
 use Rattle.rules.specs.Record.{Rec, no-span, valued-at, also-at, listed}
 use Rattle.rules.specs.Visit.{look, each, head-at, kind-at, spot-at, under, how-many}
 use Rattle.rules.specs.Order.{Sort, Sort.load, Sort.assign, Sort.argument, Bind, one, several, nothing, bind-of}
@@ -88,9 +90,10 @@ abbrev pub first-of : ℕ → List First → Option First
 first-of x [] = none
 first-of x (d ∷ ds) = elim (eqb x (d .head .spot .value)) [ true ↦ some d | false ↦ first-of x ds ]
 
-abbrev pub times : ℕ → List ℕ → ℕ
-times x [] = 0
-times x (y ∷ ys) = elim (eqb x y) [ true ↦ suc (times x ys) | false ↦ times x ys ]
+-- x is among the names whose x = x was free
+abbrev pub was-free : ℕ → List ℕ → Bool
+was-free x [] = false
+was-free x (y ∷ ys) = eqb x y || was-free x ys
 
 -- "at the later name, second span the name as first defined"
 abbrev pub again : Head → Head → Rec
@@ -101,27 +104,32 @@ abbrev pub defined : Option First → Bool → Head → List First → (List Fir
 defined none l h ds on = on (record { head = h; loaded = l } ∷ ds)
 defined (some d) l h ds on = again (d .head) h ∷ on ds
 
--- free: whether x = x of a loaded name is free after that many free ones; xs: the names that were free so far
-module _ (free : ℕ → Bool) where
-  abbrev pub may-repeat : Option First → ℕ → Bool
-  may-repeat none n = false
-  may-repeat (some d) n = d .loaded && free n
+-- "x = x, where the first definition of x is a load, is free once"; 02, §9: "is then free each time"; before: it was free already
+abbrev pub free : Allowance → Bool → Bool
+free Once before = not before
+free Always before = true
+
+-- 02, §9: "Both are proved as one rule with the allowance as its parameter"; xs: the names whose x = x was free so far
+module _ (allowed : Allowance) where
+  abbrev pub may-repeat : Option First → Bool → Bool
+  may-repeat none before = false
+  may-repeat (some d) before = d .loaded && free allowed before
 
   abbrev pub repeated : List Deed → List First → List ℕ → List Rec
   repeated [] ds xs = []
   repeated (defines l h ∷ es) ds xs = defined (first-of (h .spot .value) ds) l h ds (λ v. repeated es v xs)
   repeated (repeats h ∷ es) ds xs =
-      elim (may-repeat (first-of (h .spot .value) ds) (times (h .spot .value) xs)) [
+      elim (may-repeat (first-of (h .spot .value) ds) (was-free (h .spot .value) xs)) [
         | true ↦ repeated es ds (h .spot .value ∷ xs)
         | false ↦ defined (first-of (h .spot .value) ds) false h ds (λ v. repeated es v xs)
       ]
 
--- "x = x, where the first definition of x is a load, is free once"
-abbrev pub once : ℕ → Bool
-once n = eqb n 0
+abbrev pub incompatible : Allowance → (ℕ → Bool) → (ℕ → Bool) → Forest → List Rec
+incompatible allowed is-type names-type f = each (check-at is-type names-type) f ++ repeated allowed (deeds f) [] []
 
-abbrev pub incompatible : (ℕ → Bool) → (ℕ → Bool) → (ℕ → Bool) → Forest → List Rec
-incompatible free is-type names-type f = each (check-at is-type names-type) f ++ repeated free (deeds f) [] []
+-- 02, §9: "Tree version 2 has version 1's layout; x = x, where x was first defined by a load, is then free each time."
+abbrev pub allowance : ℕ → Allowance
+allowance version = pick (eqb version 2) Always Once
 
 abbrev pub type-name : List ℕ
 type-name = ascii "type"
@@ -135,4 +143,4 @@ spells-one vs (bs ∷ bss) x = spells vs bs x || spells-one vs bss x
 
 -- of a file's bytes
 unfoldable pub incompatible-list : List ℕ → List Rec
-incompatible-list t = incompatible once (spells (tableOf t) type-name) (spells-one (tableOf t) five-types) (treeOf t)
+incompatible-list t = incompatible (allowance (versionOf t)) (spells (tableOf t) type-name) (spells-one (tableOf t) five-types) (treeOf t)

@@ -6,7 +6,7 @@ use mathlib.Core.List.{List, [], _∷_}
 use Rattle.tree.specs.declared.Mode.{Mode}
 use Rattle.tree.specs.declared.Mode.the-variants.{Ordinary, Strict}
 use Rattle.tree.specs.Bytes.{same-bytes}
-use Rattle.tree.specs.Written.{node-of, value-of, file}
+use Rattle.tree.specs.Written.{node-of, value-of, file-of, file}
 use Rattle.tree.specs.Judge.{judged}
 use Rattle.tree.specs.declared.Judged.{Judged}
 use Rattle.tree.specs.declared.Judged.the-variants.{Valid, Refused}
@@ -148,10 +148,10 @@ large-keys =
 -- load("m", "x")
 -- x = x
 -- x = x
--- (values: x)
-abbrev pub loaded : List ℕ
-loaded =
-    file
+-- (values: x), in a version
+abbrev pub loaded : ℕ → List ℕ
+loaded version =
+    file-of version
     (node-of 8 0 9 0 27 65535
     ∷ node-of 13 0 2 0 14 65535
     ∷ node-of 47 0 1 10 13 0
@@ -195,8 +195,8 @@ pub record Row : Type 0 where
   pub ordinarily : List ℕ
   pub strictly : List ℕ
 
-abbrev pub always : List ℕ → List ℕ → Row
-always t ns = record { tree = t; ordinarily = ns; strictly = ns }
+abbrev pub in-both : List ℕ → List ℕ → Row
+in-both t ns = record { tree = t; ordinarily = ns; strictly = ns }
 
 -- "Empty statements root: nothing."
 -- "Names: at module level, for i in xs with print(a), a = 1 inside: one 6 at the use of a."
@@ -204,24 +204,25 @@ always t ns = record { tree = t; ordinarily = ns; strictly = ns }
 -- "x = 1, x = 2 at module level: names 2 at the first x; incompatible 15 at the second."
 -- "Keys 1, 1.0, 1: 16 at the first, 16 at the second." 02, §11: "In 01's case 1, 1.0, 1 both records say 2."
 -- "Keys 10000000000, 1e10: nothing; strict: one 16."
--- "load x, x = x, x = x: incompatible one 15."
+-- "load x, x = x, x = x: incompatible one 15." 02, §9: "01's load example gives nothing in version 2."
 -- "def g() -> None with return 1 only inside an if: 8."
 abbrev pub rows : List Row
 rows =
-    always empty []
-    ∷ always looped (6 ∷ 21 ∷ 22 ∷ 0 ∷ 0 ∷ 0 ∷ 0 ∷ 0 ∷ 8 ∷ 65535 ∷ [])
-    ∷ always both-return (9 ∷ 59 ∷ 65 ∷ 65535 ∷ 0 ∷ 0 ∷ 0 ∷ 0 ∷ 13 ∷ 65535 ∷ [])
-    ∷ always set-twice
+    in-both empty []
+    ∷ in-both looped (6 ∷ 21 ∷ 22 ∷ 0 ∷ 0 ∷ 0 ∷ 0 ∷ 0 ∷ 8 ∷ 65535 ∷ [])
+    ∷ in-both both-return (9 ∷ 59 ∷ 65 ∷ 65535 ∷ 0 ∷ 0 ∷ 0 ∷ 0 ∷ 13 ∷ 65535 ∷ [])
+    ∷ in-both set-twice
     (2 ∷ 0 ∷ 1 ∷ 0 ∷ 0 ∷ 0 ∷ 0 ∷ 0 ∷ 2 ∷ 65535
     ∷ 15 ∷ 6 ∷ 7 ∷ 0 ∷ 0 ∷ 1 ∷ 0 ∷ 0 ∷ 5 ∷ 2
     ∷ [])
-    ∷ always three-ones
+    ∷ in-both three-ones
     (16 ∷ 5 ∷ 6 ∷ 3 ∷ 11 ∷ 14 ∷ 2 ∷ 0 ∷ 3 ∷ 5
     ∷ 16 ∷ 11 ∷ 14 ∷ 2 ∷ 19 ∷ 20 ∷ 2 ∷ 0 ∷ 5 ∷ 7
     ∷ [])
     ∷ record { tree = large-keys; ordinarily = []; strictly = 16 ∷ 5 ∷ 16 ∷ 3 ∷ 21 ∷ 25 ∷ 2 ∷ 0 ∷ 3 ∷ 5 ∷ [] }
-    ∷ always loaded (15 ∷ 21 ∷ 22 ∷ 0 ∷ 10 ∷ 13 ∷ 0 ∷ 0 ∷ 7 ∷ 2 ∷ [])
-    ∷ always some-return (8 ∷ 0 ∷ 37 ∷ 1 ∷ 29 ∷ 37 ∷ 0 ∷ 0 ∷ 1 ∷ 6 ∷ [])
+    ∷ in-both (loaded 1) (15 ∷ 21 ∷ 22 ∷ 0 ∷ 10 ∷ 13 ∷ 0 ∷ 0 ∷ 7 ∷ 2 ∷ [])
+    ∷ in-both (loaded 2) []
+    ∷ in-both some-return (8 ∷ 0 ∷ 37 ∷ 1 ∷ 29 ∷ 37 ∷ 0 ∷ 0 ∷ 1 ∷ 6 ∷ [])
     ∷ []
 
 abbrev pub is-valid : Judged → Bool

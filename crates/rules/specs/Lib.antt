@@ -6,6 +6,7 @@ pub mod Names
 pub mod Meeting
 pub mod Flow
 pub mod Incompatible
+pub mod Dialect
 pub mod Dubious
 pub mod Joined
 pub mod Outcome

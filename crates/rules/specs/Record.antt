@@ -85,3 +85,8 @@ listed false a b = b
 abbrev pub or-else {ℓ} : {A : Type ℓ} → Option A → Option A → Option A
 or-else (some a) b = some a
 or-else none b = b
+
+-- a fact of each member of a list
+abbrev pub Each : {A : Type 0} → (A → Type 0) → List A → Type 0
+Each P [] = Unit {0}
+Each P (x ∷ xs) = P x × Each P xs

@@ -1,5 +1,6 @@
 // What every pass answers. The rules themselves stand in specs/, as definitions.
 ghost use mathlib.Core.Path.{_≡_};
+ghost use Rattle.rules.specs.Incompatible.{allowance, free};
 ghost use Rattle.rules.specs.Outcome.{numberOf, placeOf};
 
 // The words of a record; the counts of a tally, and the last code; the words of work room that names needs.
@@ -10,6 +11,34 @@ pub const CODES: usize = 17;
 pub const LAST_CODE: u32 = CODES as u32;
 
 pub const WORK_WORDS: usize = 32768;
+
+// How often x = x of a loaded name is free.
+pub enum Allowance {
+    Once,
+    Always,
+}
+
+impl Allowance {
+    // That of a tree file's version.
+    pub fn of(version: usize) -> Allowance
+        ensures { λ r. ⌜ r ≡ allowance version ⌝ }
+    {
+        if version == 2 {
+            return Allowance::Always;
+        }
+        Allowance::Once
+    }
+
+    // Whether x = x is free; before: it was free already.
+    pub fn free(self, before: bool) -> bool
+        ensures { λ r. ⌜ r ≡ free self before ⌝ }
+    {
+        match self {
+            Allowance::Once => !before,
+            Allowance::Always => true,
+        }
+    }
+}
 
 // Why a call is refused: the tree, the work room, the answer room with the records that it needs, or another lent room with what it needs.
 // Specs' numberOf and placeOf give 01's numbers.

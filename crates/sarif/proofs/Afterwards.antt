@@ -14,14 +14,13 @@ use Rattle.tree.specs.declared.Refusal.{Refusal as Unfitness}
 use Rattle.tree.specs.declared.Judged.{Judged}
 use Rattle.tree.specs.declared.Judged.the-variants.{Valid, Refused as Unfit}
 use Rattle.tree.specs.declared.Mode.{Mode}
-use Rattle.rules.specs.Record.{Rec, width, all-words}
+use Rattle.rules.specs.Record.{Rec, width, all-words, Each}
 use Rattle.rules.specs.Joined.{lint-list, no-tally, tally-of}
 use Rattle.rules.specs.Outcome.{numberOf, work-words, room-by, work-by, cleared}
 use Rattle.rules.specs.declared.Refusal.{Refusal}
 use Rattle.rules.specs.declared.Refusal.the-variants.{Tree, WorkRoom, AnswerRoom, OtherRoom}
 use Rattle.rules.proofs.Answered.{short-or-not, unfit, fit, work-short, work-enough, room-short, room-enough, other-short, other-enough, all-passed, filled}
 use Rattle.rules.proofs.Called.{one-outcome, tree-numbered, filled-records, filled-past, filled-long}
-use Rattle.spans.specs.Fit.{Each}
 use Rattle.spans.proofs.Whole.{file-fit}
 use Rattle.json.specs.Utf8.{Utf8}
 use Rattle.json.specs.Grammar.{Name, Is}

@@ -7,12 +7,11 @@ use lib.Dec.{eqb}
 use Rattle.tree.specs.Forest.{Head, Forest, Forest.none as leaf, node}
 use Rattle.tree.specs.declared.Likeness.{Likeness}
 use Rattle.tree.specs.declared.Likeness.the-variants.{Different, SameForm, SameNumber}
-use Rattle.rules.specs.Record.{Rec, named-at}
+use Rattle.rules.specs.Record.{Rec, named-at, Each}
 use Rattle.rules.specs.Visit.{head-at, each, kind-at}
 use Rattle.rules.specs.Dubious.{keys, seen-with, reason-span, clash, against, doubles, dict-at, idle-at, dubious}
 use Rattle.rules.proofs.Bools.{and-right}
-use Rattle.spans.specs.Fit.{Each}
-use Rattle.spans.proofs.Each.{join, listed-each, listed-if}
+use Rattle.rules.proofs.Each.{join, listed-each, listed-if}
 use Rattle.spans.proofs.Made.{Throughout, Made, one, double, kind-has, place, each-made}
 
 module _ (P : Head → Type 0) where

@@ -5,11 +5,10 @@ use mathlib.Core.List.{List, [], _∷_, _++_}
 use mathlib.Core.Option.{Option, none, some}
 use lib.Dec.{eqb}
 use Rattle.tree.specs.Forest.{Spot, Head, Forest, Forest.none as leaf, node}
-use Rattle.rules.specs.Record.{Rec, no-number, plainly, or-else}
+use Rattle.rules.specs.Record.{Rec, no-number, plainly, or-else, Each}
 use Rattle.rules.specs.Visit.{has, head-at, spot-at, last-of}
 use Rattle.rules.specs.Flow.{Return, Which, everything, the-body, the-rest, wanted, returns-part, returns, first-valued, type-reason, reason, ends, missing, missing-expression, bare-recs, check-for, check, returns-walk, Reached, Course, in-list, one-by-one, only, after-stop, reached-part, reached, tail-part, tail, redundant-part, redundant-walk, below-root, Loads, loads-part, loads, effect, effect-part, effect-walk, flow}
-use Rattle.spans.specs.Fit.{Each}
-use Rattle.spans.proofs.Each.{If-some, either, either-if, join, listed-each}
+use Rattle.rules.proofs.Each.{If-some, either, either-if, join, listed-each}
 use Rattle.spans.proofs.Made.{Throughout, Made, one, two, three, place, each-made}
 
 module _ (P : Head → Type 0) where

@@ -1,5 +1,4 @@
 -- Every record of a valid file's list is fit, and its numbers lead to its nodes.
-pub mod Each
 pub mod Made
 pub mod Tree
 pub mod Flow

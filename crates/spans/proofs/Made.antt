@@ -5,11 +5,11 @@ use mathlib.Core.Bool.{Bool, true, false, _&&_, _||_, not}
 use mathlib.Core.List.{List, _++_}
 use lib.Dec.{eqb, leb, T, eqb·suc-zero}
 use Rattle.tree.specs.Forest.{Head, Forest, Forest.none as leaf, node}
-use Rattle.rules.specs.Record.{Rec, Span, no-span, span-of, named-at, valued-at, also-at}
+use Rattle.rules.specs.Record.{Rec, Span, no-span, span-of, named-at, valued-at, also-at, Each}
 use Rattle.rules.specs.Visit.{has, head-at, kind-at, each}
 use Rattle.rules.specs.Joined.{codes}
-use Rattle.spans.specs.Fit.{Reason, Each}
-use Rattle.spans.proofs.Each.{join}
+use Rattle.spans.specs.Fit.{Reason}
+use Rattle.rules.proofs.Each.{join}
 
 -- what holds of every node of a forest; and every statement that is an expression has it
 abbrev pub Throughout : (Head → Type 0) → Forest → Type 0

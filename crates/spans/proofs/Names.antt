@@ -7,14 +7,13 @@ use mathlib.Core.Option.{Option, none, some}
 use lib.Dec.{leb, T}
 use Rattle.tree.specs.Forest.{Spot, Head, Forest, Forest.none as leaf, node, treeOf}
 use Rattle.tree.specs.Table.{tableOf, spells, underscored, globalsOf}
-use Rattle.rules.specs.Record.{no-span, no-number}
+use Rattle.rules.specs.Record.{no-span, no-number, Each}
 use Rattle.rules.specs.Order.{Sort, Cmd, skip, _⨟_, use-of, set-of, stop, branch, loop, scope, of-role, body, fail-name}
 use Rattle.rules.specs.Names.{Standing, absent, maybe, definitely, Setting, set-names, Scope, fresh, Warning, State, warned, warn-new, warn, warn-if, warn-all, Found, nowhere, surely, perhaps, Search, search-out, use-out, use-as, back-to, branch-of, same-state, round, rounds, unused, spared, idle, farewell, enter, passed, leave-to, undefined, walk, names, met, told, met-in, names-list}
 use Rattle.rules.specs.Meeting.{is-met}
-use Rattle.rules.proofs.Meets.{For-all, all-right, Within, takes-met}
+use Rattle.rules.proofs.Meets.{Within, takes-met}
 use Rattle.rules.proofs.FirstMet.{first-is, warned-met}
-use Rattle.spans.specs.Fit.{Each}
-use Rattle.spans.proofs.Each.{join}
+use Rattle.rules.proofs.Each.{join, each-right}
 use Rattle.spans.proofs.Made.{Throughout, early, Made, name}
 
 -- ---- the codes of warnings
@@ -117,15 +116,15 @@ module _ (P : Head → Type 0) where
   within-held leaf o = tt
   within-held (node h k s) o = (((λ t. o .0 .0), (λ t. o .0 .0)), (within-held k (o .1 .0), within-held s (o .1 .1)))
 
-  told-made : (hs : List Head) → For-all P hs → (w : Warning) → Coded w → T (is-met hs (w .spot)) → Made P (told hs w)
+  told-made : (hs : List Head) → Each P hs → (w : Warning) → Coded w → T (is-met hs (w .spot)) → Made P (told hs w)
   told-made hs p w c t =
       let m = first-is (w .spot) hs t in
-      let q : For-all P (m .before ++ (m .it ∷ m .after)) = subst (For-all P) (m .there) p in
+      let q : Each P (m .before ++ (m .it ∷ m .after)) = subst (Each P) (m .there) p in
       subst (Made P)
       (λ i. record { code = w .code; spot = m .pair i; second = no-span; third = no-span; number = m .numbered i; number2 = no-number })
-      (name (w .code) (m .it) c (all-right P (m .before) (m .it ∷ m .after) q .0))
+      (name (w .code) (m .it) c (each-right P (m .before) (m .it ∷ m .after) q .0))
 
-  all-made : (hs : List Head) → For-all P hs → (ws : List Warning) → All ws → For-all (λ w. T (is-met hs (w .spot))) ws
+  all-made : (hs : List Head) → Each P hs → (ws : List Warning) → All ws → Each (λ w. T (is-met hs (w .spot))) ws
       → Each (Made P) (map (told hs) ws)
   all-made hs p [] c t = tt
   all-made hs p (w ∷ ws) c t = (told-made hs p w (c .0) (t .0), all-made hs p ws (c .1) (t .1))

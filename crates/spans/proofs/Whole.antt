@@ -7,6 +7,7 @@ use mathlib.Core.List.{List, _++_}
 use mathlib.Core.Logic.{inl, inr}
 use lib.Dec.{eqb, leb, T}
 use borrow.Author.Tests.{leb-true, ne-eqb}
+use Rattle.tree.specs.Bytes.{versionOf}
 use Rattle.tree.specs.Forest.{Head, treeOf}
 use Rattle.tree.specs.Judge.{judged}
 use Rattle.tree.specs.Keys.{like}
@@ -15,17 +16,17 @@ use Rattle.tree.specs.declared.Facts.{Facts}
 use Rattle.tree.specs.declared.Judged.the-variants.{Valid}
 use Rattle.tree.specs.declared.Mode.{Mode}
 use Rattle.tree.proofs.Whole.{sound}
-use Rattle.rules.specs.Record.{Rec, span-of}
+use Rattle.rules.specs.Record.{Rec, span-of, Each}
 use Rattle.rules.specs.Order.{fail-name}
 use Rattle.rules.specs.Names.{names-list}
 use Rattle.rules.specs.Flow.{none-name, flow-list}
-use Rattle.rules.specs.Incompatible.{once, type-name, five-types, spells-one, incompatible-list}
+use Rattle.rules.specs.Incompatible.{allowance, type-name, five-types, spells-one, incompatible-list}
 use Rattle.rules.specs.Dubious.{dubious-list}
 use Rattle.rules.specs.Joined.{codes, lint-list}
 use Rattle.rules.proofs.Bools.{so, nope, and-left, and-right}
-use Rattle.spans.specs.Fit.{Third, Fit, Each}
+use Rattle.spans.specs.Fit.{Third, Fit}
 use Rattle.spans.specs.Placed.{Lies, Placed}
-use Rattle.spans.proofs.Each.{join, each-more}
+use Rattle.rules.proofs.Each.{join, each-more}
 use Rattle.spans.proofs.Made.{Throughout, early, later, Made, name, one, two, three, double}
 use Rattle.spans.proofs.Tree.{Straight, Sits, tree-straight, tree-sits}
 use Rattle.spans.proofs.Names.{names-made}
@@ -42,7 +43,7 @@ module _ (P : Head → Type 0) (t : List ℕ) (o : Throughout P (treeOf t)) wher
 
   incompatible-list-made : Each (Made P) (incompatible-list t)
   unfolding incompatible-list
-  incompatible-list-made = incompatible-made P once (spells (tableOf t) type-name) (spells-one (tableOf t) five-types) (treeOf t) o
+  incompatible-list-made = incompatible-made P (allowance (versionOf t)) (spells (tableOf t) type-name) (spells-one (tableOf t) five-types) (treeOf t) o
 
   dubious-list-made : (mode : Mode) → Each (Made P) (dubious-list mode t)
   unfolding dubious-list

@@ -3,7 +3,6 @@
 use Prim.Native.Nat.{_≤_}
 use mathlib.Core.Path.{_≡_}
 use mathlib.Core.Bool.{Bool, true, false}
-use mathlib.Core.List.{List, [], _∷_}
 use lib.Dec.{eqb}
 use Rattle.rules.specs.Record.{Rec, Span}
 use Rattle.rules.specs.Joined.{codes}
@@ -22,8 +21,3 @@ pub record Fit (r : Rec) : Type 0 where
   pub first : r .spot .begin ≤ r .spot .end
   pub second : r .second .begin ≤ r .second .end
   pub third : Third (eqb 16 (r .code)) (r .third)
-
--- a fact of each member of a list
-abbrev pub Each : {A : Type 0} → (A → Type 0) → List A → Type 0
-Each P [] = Unit {0}
-Each P (x ∷ xs) = P x × Each P xs

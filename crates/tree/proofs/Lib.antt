@@ -39,3 +39,4 @@ pub mod Roles
 pub mod Entries
 pub mod Samples
 pub mod Longest
+pub mod Versions

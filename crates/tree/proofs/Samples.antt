@@ -5,7 +5,7 @@ use mathlib.Core.Bool.{Bool, true, false, _&&_}
 use mathlib.Core.List.{List, [], _∷_}
 use lib.Dec.{eqb}
 use Rattle.tree.specs.Search.{first}
-use Rattle.tree.specs.Bytes.{u16At, u32At, nodeCount, valueCount, globalCount, kindAt, roleAt, sizeAt, beginAt, endAt, valueAt, lastAt}
+use Rattle.tree.specs.Bytes.{u16At, u32At, versionOf, nodeCount, valueCount, globalCount, kindAt, roleAt, sizeAt, beginAt, endAt, valueAt, lastAt}
 use Rattle.tree.specs.Forest.{spotAt, headAt, forestIn, forestOf}
 use Rattle.tree.specs.Values.{offset, formed, precedes}
 use Rattle.tree.specs.Table.{wrong-value, wrong-global}
@@ -25,5 +25,5 @@ agree [] = true
 agree (s ∷ ss) = says (judged (s .bytes)) (s .number) (s .place) && agree ss
 
 pub samples-agree : agree samples ≡ true
-unfolding judged checks factsOf first u16At u32At nodeCount valueCount globalCount kindAt roleAt sizeAt beginAt endAt valueAt lastAt spotAt headAt forestIn forestOf offset formed precedes wrong-value wrong-global parentIn parentOf limitOf known wrong-node depthIn depthOf too-deep classOf slotOf all-stand many all-filled in-pairs for-first in-order kids-fit rootOk wrong-children samples
+unfolding judged checks factsOf first u16At u32At versionOf nodeCount valueCount globalCount kindAt roleAt sizeAt beginAt endAt valueAt lastAt spotAt headAt forestIn forestOf offset formed precedes wrong-value wrong-global parentIn parentOf limitOf known wrong-node depthIn depthOf too-deep classOf slotOf all-stand many all-filled in-pairs for-first in-order kids-fit rootOk wrong-children samples
 samples-agree = refl

@@ -8,12 +8,12 @@ use mathlib.Core.Bool.{Bool, true, false, not}
 use lib.Dec.{eqb}
 use lib.ListN.{length}
 use borrow.Author.Tests.{lt-ltb, le-ltb}
-use Rattle.tree.specs.Bytes.{version, u16At, nodeCount, valueCount, globalCount, valueAt, pick}
+use Rattle.tree.specs.Bytes.{nodeCount, valueCount, globalCount, valueAt, pick}
 use Rattle.tree.specs.Search.{first, lowest}
 use Rattle.tree.specs.Table.{tableOf, is-name, is-literal, wrong-value, listed, globalsFrom, global, wrong-global}
 use Rattle.tree.specs.Nodes.{wrong-node, too-deep}
 use Rattle.tree.specs.Children.{wrong-children}
-use Rattle.tree.specs.Judge.{marked, limits, checks, refuseAt, factsOf, judged}
+use Rattle.tree.specs.Judge.{marked, versioned, limits, checks, refuseAt, factsOf, judged}
 use Rattle.tree.specs.code.Stages.{isName, isLiteral, bad5, bad9, valueFits, good6, bad6, namesOf, facts-at, judged9, judged8, judged7, judged6, judged5, judged4, judged3, staged}
 use Rattle.tree.specs.code.Kids.{bad7}
 use Rattle.tree.specs.declared.Refusal.{Refusal}
@@ -86,7 +86,7 @@ module _ (t : List ℕ) where
   unfolding judged checks staged judged3 judged4 judged5 judged6 judged7 judged8 judged9 nodeCount valueCount globalCount
   staged-same =
       of-file-same (marked t) Mark
-      (of-file-same (eqb (u16At t 3) version) Version
+      (of-file-same (versioned t) Version
       (of-file-same (limits (nodeCount t) (valueCount t) (globalCount t)) Counts
       (of-file-same (eqb (globalsFrom t + 2 * listed (globalCount t)) (length t)) Sections
       (at-each-same Value (valueCount t) _ _ five-same

@@ -8,14 +8,14 @@ use mathlib.Core.Logic.{_⊎_, inl, inr}
 use lib.Dec.{leb, ltb, eqb}
 use lib.ListN.{length}
 use borrow.Author.Tests.{ltb-false, leb-true, eqb-true}
-use Rattle.tree.specs.Bytes.{pick, version, u16At, nodeCount, valueCount, globalCount, sizeAt}
+use Rattle.tree.specs.Bytes.{pick, versionOf, nodeCount, valueCount, globalCount, sizeAt}
 use Rattle.tree.specs.Search.{lowest}
 use Rattle.tree.specs.Values.{offset}
 use Rattle.tree.specs.code.Stages.{bad5, bad9, bad6, facts-at, staged, judged3, judged4, judged5, judged6, judged7, judged8, judged9}
 use Rattle.tree.specs.Nodes.{too-deep}
 use Rattle.tree.specs.Children.{rootOk}
 use Rattle.tree.specs.code.Kids.{bad7, good7}
-use Rattle.tree.specs.Judge.{refuseAt, marked, limits, factsOf, judged}
+use Rattle.tree.specs.Judge.{refuseAt, marked, versioned, limits, factsOf, judged}
 use Rattle.tree.specs.Table.{listed}
 use Rattle.tree.specs.code.Part.{Part}
 use Rattle.tree.specs.code.Sound.{Sound}
@@ -58,9 +58,9 @@ unfolding bad7 rootOk
 root-size t n e = eqb-true _ _ (and-left (eqb (sizeAt t 0) n) _ (and-left (rootOk t n) (good7 t 0) (not-so _ e)))
 
 -- the file behind the mark and the version
-sound3 : (t : List ℕ) (f : Facts) → judged3 t (nodeCount t) (valueCount t) (globalCount t) ≡ Valid f → Sound t f
+sound3 : (t : List ℕ) (f : Facts) → versioned t ≡ true → judged3 t (nodeCount t) (valueCount t) (globalCount t) ≡ Valid f → Sound t f
 unfolding judged3 judged4 judged5 judged6 judged7 judged8 judged9 facts-at
-sound3 t f e =
+sound3 t f known e =
     let n = nodeCount t in
     let nv = valueCount t in
     let g = globalCount t in
@@ -76,11 +76,13 @@ sound3 t f e =
     let seven : (i : ℕ) → i < n → bad7 t n i ≡ false = λ i h. lowest-clear n (bad7 t n) i (omega arith) in
     record {
       facts = same ∙ sym (facts-same t);
+      version = ap (λ (x : Facts). x .version) same;
       nodes = ap (λ (x : Facts). x .nodes) same;
       values = ap (λ (x : Facts). x .values) same;
       names = ap (λ (x : Facts). x .names) same;
       globals = ap (λ (x : Facts). x .globals) same;
       rest = ap (λ (x : Facts). x .rest) same;
+      known-version = known;
       some-nodes = few .3;
       few-nodes = few .0;
       few-values = few .1;
@@ -99,8 +101,17 @@ pub sound : (t : List ℕ) (f : Facts) → judged t ≡ Valid f → Sound t f
 unfolding staged nodeCount valueCount globalCount
 sound t f e =
     let e1 = kept (marked t) _ Mark f (sym (staged-same t) ∙ e) in
-    let e2 = kept (eqb (u16At t 3) version) _ Version f (e1 .1) in
-    sound3 t f (e2 .1)
+    let e2 = kept (versioned t) _ Version f (e1 .1) in
+    sound3 t f (e2 .0) (e2 .1)
+
+-- 02, §9: a valid file is of version 1 or of version 2
+pub valid-version : (t : List ℕ) (f : Facts) → judged t ≡ Valid f → (f .version ≡ 1) ⊎ (f .version ≡ 2)
+valid-version t f e = let s = sound t f e in go (f .version) (s .version) (eqb (versionOf t) 1) (eqb (versionOf t) 2) refl refl (s .known-version)
+  where
+    go : (v : ℕ) → v ≡ versionOf t → (a b : Bool) → eqb (versionOf t) 1 ≡ a → eqb (versionOf t) 2 ≡ b → (a || b) ≡ true → (v ≡ 1) ⊎ (v ≡ 2)
+    go v h true b p q r = inl (h ∙ eqb-true _ _ p)
+    go v h false true p q r = inr (h ∙ eqb-true _ _ q)
+    go v h false false p q r = let z : _≡_ {A = ℕ} 0 1 = cc in absurd (omega arith)
 
 pub valid-facts : (t : List ℕ) (f : Facts) → judged t ≡ Valid f → f ≡ factsOf t
 valid-facts t f e = sound t f e .facts

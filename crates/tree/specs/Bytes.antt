@@ -25,16 +25,16 @@ stands-at t o bs = same-bytes (bytesFrom (length bs) t o) bs
 abbrev pub mark : List ℕ
 mark = ascii "SLT"
 
-abbrev pub version : ℕ
-version = 1
-
 unfoldable pub u16At : List ℕ → ℕ → ℕ
 u16At s at = getD s at 0 + 256 * getD s (at + 1) 0
 
 unfoldable pub u32At : List ℕ → ℕ → ℕ
 u32At s at = u16At s at + 65536 * u16At s (at + 2)
 
--- the header, after the mark and the version: how many nodes, values and globals (65535: globals not given)
+-- the header, after the mark: the version; how many nodes, values and globals (65535: globals not given)
+unfoldable pub versionOf : List ℕ → ℕ
+versionOf t = u16At t 3
+
 unfoldable pub nodeCount : List ℕ → ℕ
 nodeCount t = u16At t 5
 

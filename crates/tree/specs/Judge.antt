@@ -4,7 +4,7 @@ use mathlib.Core.List.{List, [], _∷_}
 use mathlib.Core.Bool.{Bool, _&&_, _||_, not}
 use lib.ListN.{length}
 use lib.Dec.{leb, ltb, eqb}
-use Rattle.tree.specs.Bytes.{stands-at, mark, version, u16At, nodeCount, valueCount, globalCount, pick}
+use Rattle.tree.specs.Bytes.{stands-at, mark, versionOf, nodeCount, valueCount, globalCount, pick}
 use Rattle.tree.specs.Search.{lowest}
 use Rattle.tree.specs.Table.{tableOf, is-name, wrong-value, listed, globalsFrom, wrong-global}
 use Rattle.tree.specs.Nodes.{wrong-node, too-deep}
@@ -41,6 +41,10 @@ placeOf (Global i) = i
 abbrev pub marked : List ℕ → Bool
 marked t = leb 11 (length t) && stands-at t 0 mark
 
+-- 02, §9: "2 is given for versions other than 1 and 2"
+abbrev pub versioned : List ℕ → Bool
+versioned t = eqb (versionOf t) 1 || eqb (versionOf t) 2
+
 abbrev pub limits : ℕ → ℕ → ℕ → Bool
 limits n nv g = leb 1 n && (leb n 1024 && (leb nv 512 && (leb g 512 || eqb g 65535)))
 
@@ -60,7 +64,7 @@ at-each why n wrong = record { why = why; places = n; wrong = wrong }
 unfoldable pub checks : List ℕ → List Check
 checks t =
     of-file Mark (marked t)
-    ∷ of-file Version (eqb (u16At t 3) version)
+    ∷ of-file Version (versioned t)
     ∷ of-file Counts (limits (nodeCount t) (valueCount t) (globalCount t))
     ∷ of-file Sections (eqb (globalsFrom t + 2 * listed (globalCount t)) (length t))
     ∷ at-each Value (valueCount t) (wrong-value (tableOf t))
@@ -86,7 +90,7 @@ leading t = lowest (valueCount t) (λ v. not (is-name (tableOf t) v))
 -- what a valid file says of itself
 unfoldable pub factsOf : List ℕ → Facts
 factsOf t =
-    record { nodes = nodeCount t; values = valueCount t; names = leading t; globals = globalCount t; rest = globalsFrom t }
+    record { version = versionOf t; nodes = nodeCount t; values = valueCount t; names = leading t; globals = globalCount t; rest = globalsFrom t }
 
 unfoldable pub judged : List ℕ → Judged
 judged t = checked (checks t) (Valid (factsOf t))

@@ -9,4 +9,5 @@ pub mod Nodes
 pub mod Children
 pub mod Judge
 pub mod Written
+pub mod Versions
 pub mod code

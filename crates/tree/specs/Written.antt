@@ -1,8 +1,8 @@
--- 01, "The tree file, version 1", written down: for files whose bytes a reader sees node by node. Assumes nothing.
+-- 01, "The tree file", written down, in either version: for files whose bytes a reader sees node by node. Assumes nothing.
 use Prim.Native.Nat.{ℕ, _/_, _%_}
 use mathlib.Core.List.{List, [], _∷_, _++_}
 use lib.ListN.{length}
-use Rattle.tree.specs.Bytes.{mark, version}
+use Rattle.tree.specs.Bytes.{mark}
 
 abbrev pub u16 : ℕ → List ℕ
 u16 n = n % 256 ∷ n / 256 ∷ []
@@ -26,6 +26,9 @@ joined (l ∷ ls) = l ++ joined ls
 abbrev pub headed : ℕ → ℕ → ℕ → ℕ → List ℕ → List ℕ
 headed v n nv g rest = mark ++ (u16 v ++ (u16 n ++ (u16 nv ++ (u16 g ++ rest))))
 
--- globals not given
+-- of a version, globals not given
+abbrev pub file-of : ℕ → List (List ℕ) → List (List ℕ) → List ℕ
+file-of v ns vs = headed v (length ns) (length vs) 65535 (joined ns ++ joined vs)
+
 abbrev pub file : List (List ℕ) → List (List ℕ) → List ℕ
-file ns vs = headed version (length ns) (length vs) 65535 (joined ns ++ joined vs)
+file ns vs = file-of 1 ns vs

@@ -2,7 +2,7 @@
 ghost use mathlib.Core.Path.{_≡_};
 ghost use Prim.Native.Nat.{_+_, _<_};
 ghost use lib.ListN.{length, getD};
-ghost use Rattle.tree.specs.Bytes.{stands-at, u16At, u32At, nodeCount, valueCount, globalCount, nodeAt, kindAt, roleAt, sizeAt, beginAt, endAt, valueAt, lastAt};
+ghost use Rattle.tree.specs.Bytes.{stands-at, u16At, u32At, versionOf, nodeCount, valueCount, globalCount, nodeAt, kindAt, roleAt, sizeAt, beginAt, endAt, valueAt, lastAt};
 ghost use Rattle.tree.specs.code.Offsets.{u64At};
 
 fn wide(x: u8) -> usize
@@ -61,7 +61,13 @@ pub(crate) fn u64_at(s: &[u8], at: usize) -> usize
     u32_at(s, at) + 4294967296 * u32_at(s, at + 4)
 }
 
-// The header's counts.
+// The header's version and counts.
+pub fn version_of(t: &[u8]) -> usize
+    ensures { λ r. ⌜ (r ≡ versionOf (now (t .entry))) × (r < 65536) ⌝ }
+{
+    u16_at(t, 3)
+}
+
 pub fn node_count(t: &[u8]) -> usize
     ensures { λ r. ⌜ (r ≡ nodeCount (now (t .entry))) × (r < 65536) ⌝ }
 {

@@ -4,12 +4,13 @@
 // What a pass asks of the values of a file that was judged is in lookup and keys, with its cost there.
 ghost use mathlib.Core.Path.{_≡_};
 ghost use Prim.Native.Nat.{_≤_};
-ghost use Rattle.tree.specs.Judge.{numberOf, placeOf, marked, limits, judged};
+ghost use Rattle.tree.specs.Judge.{numberOf, placeOf, marked, versioned, limits, judged};
 ghost use Rattle.tree.specs.Keys.{reason};
 ghost use Rattle.tree.specs.Table.{listed};
 ghost use Rattle.tree.specs.code.Stages.{judged9, judged8, judged7, judged6, judged5, judged4, judged3, None5, None6};
 use bytes::bytes_are;
 use bytes::u16_at;
+use bytes::version_of;
 use children::first7;
 use nodes::first6;
 use nodes::first8;
@@ -27,11 +28,9 @@ pub mod lookup;
 mod nodes;
 mod values;
 
-// The version of tree files that is judged.
-pub const VERSION: usize = 1;
-
 // What a valid file says of itself.
 pub struct Facts {
+    pub version: usize,
     pub nodes: usize,
     pub values: usize,
     pub names: usize,
@@ -147,6 +146,7 @@ fn judge9(t: &[u8], n: usize, nv: usize, g: usize) -> Judged
         return refused(Refusal::Global(p));
     }
     Judged::Valid(Facts {
+        version: version_of(t),
         nodes: n,
         values: nv,
         names,
@@ -248,11 +248,21 @@ fn has_mark(t: &[u8]) -> bool
     bytes_are(t, 0, b"SLT")
 }
 
+fn has_version(t: &[u8]) -> bool
+    ensures { λ r. ⌜ r ≡ versioned (now (t .entry)) ⌝ }
+{
+    let version = version_of(t);
+    if version == 1 {
+        return true;
+    }
+    version == 2
+}
+
 pub fn judge(t: &[u8]) -> Judged
     ensures { λ r. ⌜ r ≡ judged (now (t .entry)) ⌝ }
 {
     if has_mark(t) {
-        if u16_at(t, 3) == VERSION {
+        if has_version(t) {
             return judge3(t, u16_at(t, 5), u16_at(t, 7), u16_at(t, 9));
         }
         return refused(Refusal::Version);

@@ -32,12 +32,15 @@ returns c =
     let l : c .before .before .first9 .result < listed ((c .before .before .before .before .before .before .before .args .g)) = omega (arith, c .before .before .before .listed-of .ensures, (c .before .if1 .taken)) in
     c .refused .ensures ∙ rw (← e) (simp (lt-ltb _ _ l))
 
+version-of-requires : tie.Need-version-of-requires
+version-of-requires c κs = search needs
+
 returns-2 : tie.Need-returns-2
 unfolding judged9 facts-at
 returns-2 c =
-    let e : c .before .first9 .result ≡ lowest (listed ((c .before .before .before .before .before .before .args .g))) (bad9 ((c .before .before .before .before .before .before .args .t .now)) ((c .before .before .before .before .before .before .args .n)) ((c .before .before .before .before .before .before .args .nv))) = rw (c .before .before .listed-of .ensures) at (c .before .first9 .ensures) in
-    let l : listed ((c .before .before .before .before .before .before .args .g)) ≤ c .before .first9 .result = omega (arith, c .before .before .listed-of .ensures, (c .if1 .left)) in
-    rw (← e) (simp (le-ltb _ _ l) (cc (c .before .before .before .before .count-names .ensures, c .before .before .before .offset-of .ensures .0)))
+    let e : c .before .before .first9 .result ≡ lowest (listed ((c .before .before .before .before .before .before .before .args .g))) (bad9 ((c .before .before .before .before .before .before .before .args .t .now)) ((c .before .before .before .before .before .before .before .args .n)) ((c .before .before .before .before .before .before .before .args .nv))) = rw (c .before .before .before .listed-of .ensures) at (c .before .before .first9 .ensures) in
+    let l : listed ((c .before .before .before .before .before .before .before .args .g)) ≤ c .before .before .first9 .result = omega (arith, c .before .before .before .listed-of .ensures, (c .before .if1 .left)) in
+    rw (← e) (simp (le-ltb _ _ l) (cc (c .before .before .before .before .before .count-names .ensures, c .before .before .before .before .offset-of .ensures .0, c .version-of .ensures .0)))
 
 pub judge9-spec : {M : Type 1} → statement M
 judge9-spec =
@@ -49,4 +52,5 @@ judge9-spec =
     first9-requires
     refused-requires
     returns
+    version-of-requires
     returns-2)

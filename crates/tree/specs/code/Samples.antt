@@ -3,8 +3,8 @@
 use Prim.Native.Nat.{ℕ}
 use mathlib.Core.List.{List, [], _∷_, _++_}
 use lib.ListN.{length}
-use Rattle.tree.specs.Bytes.{ascii, mark, version}
-use Rattle.tree.specs.Written.{u16, node-of, value-of, joined, headed, file}
+use Rattle.tree.specs.Bytes.{ascii, mark}
+use Rattle.tree.specs.Written.{u16, node-of, value-of, joined, headed, file-of, file}
 
 pub record Sample : Type 0 where
   pub bytes : List ℕ
@@ -20,7 +20,7 @@ list-of z = node-of 8 0 z 0 0 65535
 
 -- globals given, each by two bytes
 abbrev file-with : List (List ℕ) → List (List ℕ) → List (List ℕ) → List ℕ
-file-with ns vs gs = headed version (length ns) (length vs) (length gs) (joined ns ++ (joined vs ++ joined gs))
+file-with ns vs gs = headed 1 (length ns) (length vs) (length gs) (joined ns ++ (joined vs ++ joined gs))
 
 unfoldable pub samples : List Sample
 samples =
@@ -28,12 +28,16 @@ samples =
     sample 0 0 (file (node-of 5 0 2 0 1 65535 ∷ node-of 21 4 1 0 1 0 ∷ []) (value-of 3 (1 ∷ []) ∷ [])) ∷
     -- under 11 bytes
     sample 1 0 mark ∷
-    -- version 2
-    sample 2 0 (headed 2 1 0 0 []) ∷
+    -- versions 0, 3 and 65535
+    sample 2 0 (headed 0 1 0 0 []) ∷
+    sample 2 0 (headed 3 1 0 0 []) ∷
+    sample 2 0 (headed 65535 1 0 0 []) ∷
+    -- version 2: one pass
+    sample 0 0 (file-of 2 (node-of 3 0 1 0 0 65535 ∷ []) []) ∷
     -- no nodes
-    sample 3 0 (headed version 0 0 0 []) ∷
+    sample 3 0 (headed 1 0 0 0 []) ∷
     -- the node section is missing
-    sample 4 0 (headed version 1 0 0 []) ∷
+    sample 4 0 (headed 1 1 0 0 []) ∷
     -- an integer with a leading zero byte
     sample 5 0 (file (node-of 3 0 1 0 0 65535 ∷ []) (value-of 3 (0 ∷ 1 ∷ []) ∷ [])) ∷
     -- four nodes of sizes 1, 2, 2, 1: node 0 is short of the count

@@ -2,27 +2,29 @@
 use Prim.Native.Nat.{ℕ, _+_, _*_, _≤_, _<_}
 use mathlib.Core.Path.{_≡_}
 use mathlib.Core.List.{List}
-use mathlib.Core.Bool.{false}
+use mathlib.Core.Bool.{true, false}
 use mathlib.Core.Logic.{_⊎_}
 use lib.ListN.{length}
-use Rattle.tree.specs.Bytes.{nodeCount, valueCount, globalCount, sizeAt}
+use Rattle.tree.specs.Bytes.{versionOf, nodeCount, valueCount, globalCount, sizeAt}
 use Rattle.tree.specs.Values.{offset}
 use Rattle.tree.specs.code.Stages.{bad9, namesOf, None5, None6}
 use Rattle.tree.specs.Nodes.{too-deep}
 use Rattle.tree.specs.code.Kids.{bad7}
 use Rattle.tree.specs.Table.{listed}
-use Rattle.tree.specs.Judge.{factsOf}
+use Rattle.tree.specs.Judge.{versioned, factsOf}
 use Rattle.tree.specs.declared.Facts.{Facts}
 
 pub record Sound (t : List ℕ) (f : Facts) : Type 0 where
-  -- the facts are the file's counts
+  -- the facts are the file's version and counts
   pub facts : f ≡ factsOf t
+  pub version : f .version ≡ versionOf t
   pub nodes : f .nodes ≡ nodeCount t
   pub values : f .values ≡ valueCount t
   pub names : f .names ≡ namesOf t (nodeCount t) (valueCount t)
   pub globals : f .globals ≡ globalCount t
   pub rest : f .rest ≡ offset t (nodeCount t) (valueCount t)
-  -- not refused by 3, 4
+  -- not refused by 2, 3, 4
+  pub known-version : versioned t ≡ true
   pub some-nodes : 1 ≤ nodeCount t
   pub few-nodes : nodeCount t ≤ 1024
   pub few-values : valueCount t ≤ 512

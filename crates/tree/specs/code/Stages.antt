@@ -6,12 +6,12 @@ use mathlib.Core.List.{List}
 use mathlib.Core.Bool.{Bool, _&&_, _||_, not}
 use lib.ListN.{length, getD}
 use lib.Dec.{leb, ltb, eqb}
-use Rattle.tree.specs.Bytes.{version, u16At, kindAt, sizeAt, beginAt, endAt, valueAt, lastAt, pick}
+use Rattle.tree.specs.Bytes.{versionOf, u16At, kindAt, sizeAt, beginAt, endAt, valueAt, lastAt, pick}
 use Rattle.tree.specs.Search.{lowest}
 use Rattle.tree.specs.Values.{Value, formed, precedes, valueFrom, offset}
 use Rattle.tree.specs.Table.{listed}
 use Rattle.tree.specs.Nodes.{parentOf, limitOf, known, holds-name, too-deep}
-use Rattle.tree.specs.Judge.{refuseAt, marked, limits}
+use Rattle.tree.specs.Judge.{refuseAt, marked, versioned, limits}
 use Rattle.tree.specs.code.Kids.{bad7}
 use Rattle.tree.specs.declared.Facts.{Facts}
 use Rattle.tree.specs.declared.Refusal.{Refusal}
@@ -82,7 +82,7 @@ None6 t n nv = n ≤ lowest n (bad6 t n nv)
 
 unfoldable pub facts-at : List ℕ → ℕ → ℕ → ℕ → Facts
 facts-at t n nv g =
-    record { nodes = n; values = nv; names = namesOf t n nv; globals = g; rest = offset t n nv }
+    record { version = versionOf t; nodes = n; values = nv; names = namesOf t n nv; globals = g; rest = offset t n nv }
 
 unfoldable pub judged9 : List ℕ → ℕ → ℕ → ℕ → Judged
 judged9 t n nv g = refuseAt Global (lowest (listed g) (bad9 t n nv)) (listed g) (Valid (facts-at t n nv g))
@@ -108,5 +108,5 @@ judged3 t n nv g = pick (limits n nv g) (judged4 t n nv g) (Refused Counts)
 unfoldable pub staged : List ℕ → Judged
 staged t =
     pick (marked t)
-    (pick (eqb (u16At t 3) version) (judged3 t (u16At t 5) (u16At t 7) (u16At t 9)) (Refused Version))
+    (pick (versioned t) (judged3 t (u16At t 5) (u16At t 7) (u16At t 9)) (Refused Version))
     (Refused Mark)

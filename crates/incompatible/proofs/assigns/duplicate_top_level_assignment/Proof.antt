@@ -20,7 +20,7 @@ same-length c = search needs
 
 returns : tie.Need-returns
 returns c =
-    all-judged (c .before .before .before .before .before .before .before .before .args .t .now) (c .before .before .before .before .before .before .before .before .args .out .now) (c .before .before .before .before .before .before .before .before .args .s) (deeds (forestOf (c .before .before .before .before .before .before .before .before .args .t .now) 0 (c .before .before .before .before .before .before .before .before .args .n))) (c .before .before .before .before .undefined .result) (c .before .before .before .before .undefined .ensures .0) (c .before .before .before .before .undefined .ensures .1) (c .before .before .before .before .undefined .ensures .2) (c .before .before .before .stmts .ensures)
+    all-judged (c .before .before .before .before .before .before .before .before .args .t .now) (c .before .before .before .before .before .before .before .before .args .out .now) (c .before .before .before .before .before .before .before .before .args .allowed) (c .before .before .before .before .before .before .before .before .args .s) (deeds (forestOf (c .before .before .before .before .before .before .before .before .args .t .now) 0 (c .before .before .before .before .before .before .before .before .args .n))) (c .before .before .before .before .undefined .result) (c .before .before .before .before .undefined .ensures .3) (c .before .before .before .before .undefined .ensures .0) (c .before .before .before .before .undefined .ensures .1) (c .before .before .before .before .undefined .ensures .2) (c .before .before .before .stmts .ensures)
 
 pub duplicate-top-level-assignment-spec : {M : Type 1} → statement M
 duplicate-top-level-assignment-spec =

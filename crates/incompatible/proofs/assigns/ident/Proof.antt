@@ -34,7 +34,7 @@ returns : tie.Need-returns
 returns c =
     let l : length (c .before .before .before .before .before .before .before .before .before .before .args .d .first) ≡ 512 = search needs in
     ident-new (c .before .before .before .before .before .before .before .before .before .before .args .t .now) (c .before .before .before .before .before .before .before .before .before .before .args .out .now) (c .before .before .before .before .before .before .before .before .before .before .args .d) (c .before .before .before .before .before .before .before .before .before .before .args .i) (c .before .before .before .before .before .before .before .value-at .result) (c .before .before .before .before .before .before .before .value-at .ensures .0) (c .define .result)
-    (omega (arith, c .before .before .before .before .before .before .before .before .before .before .pre .0, c .before .before .before .before .before .before .before .value-at .ensures .0)) (sym (c .before .before .first-of .ensures) ∙ c .before .if1 .taken) (c .define .ensures .0) (c .define .ensures .1) (c .define .ensures .2)
+    (omega (arith, c .before .before .before .before .before .before .before .before .before .before .pre .0, c .before .before .before .before .before .before .before .value-at .ensures .0)) (sym (c .before .before .first-of .ensures) ∙ c .before .if1 .taken) (c .define .ensures .3) (c .define .ensures .0) (c .define .ensures .1) (c .define .ensures .2)
 
 -- src/assigns.rt:116:26
 sub-put-again : tie.Need-sub-put-again
@@ -52,7 +52,7 @@ same-length c = search needs
 returns-2 : tie.Need-returns-2
 returns-2 c =
     ident-again (c .before .before .before .before .before .before .before .before .before .before .before .before .before .args .t .now) (c .before .before .before .before .before .before .before .before .before .before .before .before .before .args .out .now) (c .before .before .before .before .before .before .before .before .before .before .before .before .before .args .d) (c .before .before .before .before .before .before .before .before .before .before .before .before .before .args .i) (c .before .before .before .before .before .before .before .before .before .before .value-at .result) (c .before .before .before .before .before .before .before .before .before .before .value-at .ensures .0) (c .before .before .before .before .before .first-of .result) _ _
-    (c .before .before .before .before .before .first-of .ensures) (c .before .before .before .before .if1 .left) refl refl (c .before .before .put-again .ensures)
+    (c .before .before .before .before .before .first-of .ensures) (c .before .before .before .before .if1 .left) refl refl refl (c .before .before .put-again .ensures)
 
 pub ident-spec : {M : Type 1} → statement M
 ident-spec =

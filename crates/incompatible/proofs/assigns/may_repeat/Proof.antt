@@ -1,6 +1,7 @@
 use native.Mathlib.Omega.{arith}
-use mathlib.Core.Path.{sym, _∙_}
-use Rattle.incompatible.proofs.Told.{free-none, free-other, free-spent, free-yes}
+use mathlib.Core.Path.{sym, ap, _∙_}
+use Rattle.rules.specs.Incompatible.{free}
+use Rattle.incompatible.proofs.Told.{free-none, free-other, free-loaded}
 use borrow.Author.Needs.{needs}
 use Rattle.incompatible.proofs.assigns.may_repeat.Statement.{statement}
 use Rattle.incompatible.proofs.assigns.may_repeat.Tie as tie
@@ -44,15 +45,14 @@ slice-aggregate-is-exported c = search needs
 is-exported-requires : tie.Need-is-exported-requires
 is-exported-requires c κs = search needs
 
--- src/assigns.rt:138:9
+free-requires : tie.Need-free-requires
+free-requires c κs = search needs
+
 returns-3 : tie.Need-returns-3
 returns-3 c =
-    free-spent (c .before .before .before .before .before .before .before .before .before .before .before .args .t .now) (c .before .before .before .before .before .before .before .before .before .before .before .args .d) (c .before .before .before .before .before .before .before .before .before .before .before .args .v) (c .before .before .before .before .before .before .first-of .result) (c .before .before .before .before .before .before .first-of .ensures) (c .before .before .before .before .before .if1 .left) (sym (c .if3 .taken) ∙ c .before .is-exported .ensures)
-
--- src/assigns.rt:125:1
-returns-4 : tie.Need-returns-4
-returns-4 c =
-    free-yes (c .before .before .before .before .before .before .before .before .before .before .before .args .t .now) (c .before .before .before .before .before .before .before .before .before .before .before .args .d) (c .before .before .before .before .before .before .before .before .before .before .before .args .v) (c .before .before .before .before .before .before .first-of .result) (c .before .before .before .before .before .before .first-of .ensures) (c .before .before .before .before .before .if1 .left) (sym (c .before .before .before .before .kind-at .ensures .0) ∙ c .before .before .before .if2 .left) (sym (c .if3 .left) ∙ c .before .is-exported .ensures)
+    c .free .ensures
+    ∙ ap (free (c .before .before .before .before .before .before .before .before .before .before .before .args .d .allowed)) (c .before .is-exported .ensures)
+    ∙ free-loaded (c .before .before .before .before .before .before .before .before .before .before .before .args .t .now) (c .before .before .before .before .before .before .before .before .before .before .before .args .d) (c .before .before .before .before .before .before .before .before .before .before .before .args .v) (c .before .before .before .before .before .before .first-of .result) (c .before .before .before .before .before .before .first-of .ensures) (c .before .before .before .before .before .if1 .left) (sym (c .before .before .before .before .kind-at .ensures .0) ∙ c .before .before .before .if2 .left)
 
 pub may-repeat-spec : {M : Type 1} → statement M
 may-repeat-spec =
@@ -66,5 +66,5 @@ may-repeat-spec =
     returns-2
     slice-aggregate-is-exported
     is-exported-requires
-    returns-3
-    returns-4)
+    free-requires
+    returns-3)

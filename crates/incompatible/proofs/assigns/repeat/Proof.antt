@@ -30,7 +30,7 @@ returns : tie.Need-returns
 returns c =
     let l : length (c .before .before .before .before .before .before .args .d .exported) ≡ 512 = search needs in
     repeat-free (c .before .before .before .before .before .before .args .t .now) (c .before .before .before .before .before .before .args .out .now) (c .before .before .before .before .before .before .args .d) (c .before .before .before .before .before .before .args .x) (c .before .before .before .value-at .result) (c .before .before .before .value-at .ensures .0) (c .export .result)
-    (omega (arith, c .before .before .before .before .before .before .pre .0, c .before .before .before .value-at .ensures .0)) (sym (c .before .if1 .taken) ∙ c .before .before .may-repeat .ensures) (c .export .ensures .0) (c .export .ensures .1) (c .export .ensures .2)
+    (omega (arith, c .before .before .before .before .before .before .pre .0, c .before .before .before .value-at .ensures .0)) (sym (c .before .if1 .taken) ∙ c .before .before .may-repeat .ensures) (c .export .ensures .3) (c .export .ensures .0) (c .export .ensures .1) (c .export .ensures .2)
 
 -- src/assigns.rt:255:5
 ident-requires : tie.Need-ident-requires

@@ -3,8 +3,7 @@ use mathlib.Core.Bool.{Bool, true, false}
 use mathlib.Core.List.{List, [], _∷_, _++_}
 use mathlib.Core.Option.{Option, none, some}
 use lib.Dec.{T}
-use Rattle.rules.specs.Record.{listed}
-use Rattle.spans.specs.Fit.{Each}
+use Rattle.rules.specs.Record.{listed, Each}
 
 -- a fact of what there may be
 abbrev pub If-some : {A : Type 0} → (A → Type 0) → Option A → Type 0
@@ -25,6 +24,14 @@ module _ {A : Type 0} (P : A → Type 0) where
   pub join : (xs ys : List A) → Each P xs → Each P ys → Each P (xs ++ ys)
   join [] ys p q = q
   join (x ∷ xs) ys p q = (p .0, join xs ys (p .1) q)
+
+  pub each-left : (xs ys : List A) → Each P (xs ++ ys) → Each P xs
+  each-left [] ys p = tt
+  each-left (x ∷ xs) ys p = (p .0, each-left xs ys (p .1))
+
+  pub each-right : (xs ys : List A) → Each P (xs ++ ys) → Each P ys
+  each-right [] ys p = p
+  each-right (x ∷ xs) ys p = each-right xs ys (p .1)
 
   pub listed-if : (b : Bool) (xs ys : List A) → (T b → Each P xs) → Each P ys → Each P (listed b xs ys)
   listed-if true xs ys p q = join xs ys (p tt) q
