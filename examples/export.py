@@ -10,7 +10,8 @@ stand in the order of docs/TREE.md's table; a body of one statement is that stat
 
 Spans are byte offsets of the script as it stands in the file: a byte order mark counts as the three bytes that it is. A line
 ends with LF, CR LF or CR alone, as for Python. Lines `# globals: NAME ..` give the globals; without one they aren't given. A line
-`# dialect: 2` declares dialect 2, and the tree is of version 2; without one, or with `# dialect: 1`, it is of version 1.
+`# dialect: 2` declares dialect 2, and the tree is of version 2; without one, or with `# dialect: 1`, it is of version 1. Such lines
+begin at the margin, and count inside a string too.
 
 A script that can't be read or exported gets one line on standard error and no tree:
 
@@ -37,6 +38,7 @@ MARK = b"\xef\xbb\xbf"
 LINE_END = re.compile(rb"\r\n?|\n")
 LISTED = re.compile(rb"(?:\A(?:\xef\xbb\xbf)?|[\r\n])# globals:([^\r\n]*)")
 DECLARED = re.compile(rb"(?:\A(?:\xef\xbb\xbf)?|[\r\n])# dialect:[ \t]*([^\r\n]*)")
+NEARLY = re.compile(rb"(?:\A(?:\xef\xbb\xbf)?|[\r\n])[ \t]*(#[# \t]*(?i:dialect)[ \t]*[:=]?[ \t]*\d)")
 # What may stand between `def` and the name, and between a parameter and a lone star after it.
 BEFORE_NAME = re.compile(rb"def(?:[ \t\f]|\\(?:\r\n?|\n))*")
 BEFORE_STAR = re.compile(rb"(?:[\s,()\\]|#[^\r\n]*)*")
@@ -423,7 +425,11 @@ class Script:
 
     def dialect(self):
         """The dialect that the script declares, which is its tree's version; 1 where no line does."""
-        lines = [(line.start(1), line.group(1).strip()) for line in DECLARED.finditer(self.source)]
+        found = list(DECLARED.finditer(self.source))
+        for line in NEARLY.finditer(self.source):
+            if line.start() not in [right.start() for right in found]:
+                self.stop(line.start(1), "a dialect that is declared otherwise than by a line `# dialect: 2`")
+        lines = [(line.start(1), line.group(1).strip()) for line in found]
         for offset, word in lines:
             if word not in (b"1", b"2"):
                 self.stop(offset, "a dialect that is neither 1 nor 2")

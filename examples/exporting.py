@@ -40,7 +40,7 @@ VERSIONS = [
     ("x = 1\r# dialect:2 \r", 2),
     ("# dialect: 1\r\n# globals: x\r\n# dialect: 1\r\n", 1),
     ("x = 1 # dialect: 2\n", 1),
-    (" # dialect: 2\n", 1),
+    ("# a dialect\n", 1),
 ]
 
 # Python that is no Starlark: a script of one line, where in it, and what is named.
@@ -88,6 +88,8 @@ REFUSED = [
     ("# dialect: 3", "1:12: a dialect that is neither 1 nor 2"),
     ("x = 1\n# dialect:\n", "2:11: a dialect that is neither 1 nor 2"),
     ("# dialect: 2\n# dialect: 1", "2:12: another dialect than the script declared before"),
+    ("x = 1\n #dialect 2\n", "2:2: a dialect that is declared otherwise than by a line `# dialect: 2`"),
+    ("# Dialect: 2\n", "1:1: a dialect that is declared otherwise than by a line `# dialect: 2`"),
     # Limits, each one past its number.
     ("-" * 47 + "x", "1:48: nested deeper than 48; a tree takes at most that depth"),
     ("x = a" + " and a" * 47, "1:5: nested deeper than 48; a tree takes at most that depth"),

@@ -1,5 +1,5 @@
-/* lengths: tries what include/yudronkha.h says of lengths, of a tree's version, on one tree each, and of a few codes, with words
- * behind each room that must stay.
+/* lengths: tries what include/yudronkha.h says of lengths and of a tree's version, on one tree each, and of a few codes; words behind
+ * each room must stay.
  * Prints a line for each call that answers otherwise. Exit status: 0 none does, 1 one does, 2 header and library differ. */
 #include <stdio.h>
 #include <string.h>
@@ -190,14 +190,14 @@ static const struct version {
     {65535, YUDRONKHA_REFUSED_VERSION, 0},
 };
 
-static int version_taken(const struct version *v)
+static int version_taken(const struct version *v, int strict)
 {
     uint8_t bytes[sizeof loaded];
     memcpy(bytes, loaded, sizeof loaded);
     bytes[3] = v->version & 255;
     bytes[4] = v->version >> 8;
     fill();
-    size_t number = yudronkha_lint(bytes, sizeof bytes, work, WORK, answer, ANSWER, report, REPORT);
+    size_t number = (strict ? yudronkha_lint_strict : yudronkha_lint)(bytes, sizeof bytes, work, WORK, answer, ANSWER, report, REPORT);
     if (number != v->number || report[0] != v->records || report[YUDRONKHA_DUPLICATE_TOP_LEVEL_ASSIGN] != v->records)
         return 0;
     return v->records == 0 ? answer[0] == PATTERN
@@ -255,7 +255,7 @@ int main(void)
         }
     }
     for (size_t i = 0; i < COUNT(versions); i++)
-        if (!version_taken(&versions[i])) {
+        if (!version_taken(&versions[i], 0) || !version_taken(&versions[i], 1)) {
             printf("a tree of version %u: not as the header says\n", versions[i].version);
             status = 1;
         }

@@ -1,106 +1,157 @@
 -- 02, §9: version 2 changes nothing but 15, and there it only quiets. Of two files that differ in their version alone the lists of names,
--- flow and dubious are the same, and version 2's joined list is version 1's with 15s of loaded names left out. Assumes nothing.
+-- flow and dubious are the same, and version 2's joined list is version 1's with 15s of re-exports left out. Assumes nothing.
 use Prim.Native.Nat.{ℕ}
-use mathlib.Core.Path.{_≡_, refl, sym, subst}
+use native.Mathlib.Omega.{arith}
+use mathlib.Core.Path.{_≡_, refl, sym, ap, _∙_}
 use mathlib.Core.Bool.{Bool, true, false, not, _&&_}
-use mathlib.Core.List.{List, [], _∷_, _++_}
+use mathlib.Core.List.{List, [], _∷_, _++_, append-assoc}
 use mathlib.Core.Option.{Option, none, some}
-use lib.Dec.{T}
+use lib.Dec.{eqb}
+use borrow.Author.Tests.{eqb-true}
 use Rattle.tree.specs.Bytes.{versionOf}
-use Rattle.tree.specs.Forest.{Head, Forest, treeOf}
+use Rattle.tree.specs.Forest.{Head, treeOf}
 use Rattle.tree.specs.Table.{tableOf, spells}
 use Rattle.tree.specs.Versions.{Twins}
 use Rattle.tree.specs.declared.Mode.{Mode}
 use Rattle.tree.proofs.Versions.{same-tree, same-table, same-globals}
 use Rattle.rules.specs.declared.Allowance.the-variants.{Once, Always}
-use Rattle.rules.specs.Record.{Rec, Each}
+use Rattle.rules.specs.Record.{Rec}
 use Rattle.rules.specs.Visit.{each}
-use Rattle.rules.specs.Order.{Bind, one, several, nothing, bindings, bind-of}
 use Rattle.rules.specs.Names.{met-in, names-list}
 use Rattle.rules.specs.Flow.{flow-list}
-use Rattle.rules.specs.Incompatible.{check-at, Deed, defines, repeats, is-load, deeds, First, first-of, was-free, again, defined, may-repeat, repeated, type-name, five-types, spells-one, incompatible-list}
+use Rattle.rules.specs.Incompatible.{check-at, Deed, defines, repeats, deeds, First, first-of, was-free, again, defined, may-repeat, repeated, type-name, five-types, spells-one, incompatible-list}
 use Rattle.rules.specs.Dubious.{dubious-list}
 use Rattle.rules.specs.Joined.{lint-list}
-use Rattle.rules.specs.Dialect.{Quieted, end, stays, goes}
-use Rattle.rules.proofs.Look.{look-all}
-use Rattle.rules.proofs.Each.{If-some}
-use Rattle.rules.proofs.Deeds.{deeds-all, first-each}
+use Rattle.rules.specs.Dialect.{head-of, first-deed, Re-export, Quieted, end, stays, goes}
 
--- ---- what a load defines is of kind 47
+-- ---- the rule's first definitions are the first deeds
 
-abbrev Loads : Deed → Type 0
-Loads (defines l h) = T l → h .kind ≡ 47
-Loads (repeats h) = Unit {0}
+abbrev loaded-of : Deed → Bool
+loaded-of (defines l h) = l
+loaded-of (repeats h) = false
 
-abbrev is-loaded : Bind → Bool
-is-loaded (one o) = is-load o
-is-loaded several = false
-is-loaded nothing = false
+abbrev as-first : Option Deed → Option First
+as-first none = none
+as-first (some e) = some (record { head = head-of e; loaded = loaded-of e })
 
-loaded-kind : (h : Head) → T (is-loaded (bind-of h)) → h .kind ≡ 47
-loaded-kind h =
-    look-all (λ k z. T (is-loaded z) → k ≡ 47) (h .kind) bindings nothing
-    (λ t. absurd t, (λ t. absurd t, (λ t. absurd t, (λ t. refl, tt)))) (λ t. absurd t)
+abbrev or-else : Option Deed → Option Deed → Option Deed
+or-else none b = b
+or-else (some a) b = some a
 
-deeds-load : (f : Forest) → Each Loads (deeds f)
-deeds-load f =
-    deeds-all (λ g. Unit {0}) Loads (λ h k s w. tt) (λ h k s w. tt)
-    (λ h k s w o e t. loaded-kind h (subst (λ (z : Bind). T (is-loaded z)) (sym e) t)) (λ k w t. tt) f tt
-
--- ---- the rule
-
-abbrev Begun : First → Type 0
-Begun d = T (d .loaded) → d .head .kind ≡ 47
-
-abbrev Quiets : (List First → List Rec) → (List First → List Rec) → Type 0
-Quiets on on′ = (ds : List First) → Each Begun ds → Quieted (on ds) (on′ ds)
-
-defined-quiets : (o : Option First) (l : Bool) (h : Head) (ds : List First) (on on′ : List First → List Rec) → (T l → h .kind ≡ 47)
-    → Each Begun ds → Quiets on on′ → Quieted (defined o l h ds on) (defined o l h ds on′)
-defined-quiets none l h ds on on′ p q c = c (record { head = h; loaded = l } ∷ ds) (p, q)
-defined-quiets (some d) l h ds on on′ p q c = stays (again (d .head) h) (c ds q)
-
--- x = x, free once and free each time; before, before′: whether it was free already in either
-repeat-quiets : (o : Option First) (before before′ : Bool) (h : Head) (ds : List First) (on on′ : List First → List Rec) (freed freed′ : List Rec)
-    → If-some Begun o → Each Begun ds → Quiets on on′ → Quieted freed freed′ → Quieted (on ds) freed′
-    → Quieted (elim (may-repeat Once o before) [ true ↦ freed | false ↦ defined o false h ds on ])
-    (elim (may-repeat Always o before′) [ true ↦ freed′ | false ↦ defined o false h ds on′ ])
-repeat-quiets none before before′ h ds on on′ freed freed′ b q c f g = defined-quiets none false h ds on on′ (λ t. absurd t) q c
-repeat-quiets (some d) before before′ h ds on on′ freed freed′ b q c f g = go (d .loaded) before b
+first-joined : (x : ℕ) (ps es : List Deed) → first-deed x (ps ++ es) ≡ or-else (first-deed x ps) (first-deed x es)
+first-joined x [] es = refl
+first-joined x (p ∷ ps) es = go (eqb x (head-of p .spot .value)) (first-joined x ps es)
   where
-    go : (l before : Bool) → (T l → d .head .kind ≡ 47)
-        → Quieted (elim (l && not before) [ true ↦ freed | false ↦ again (d .head) h ∷ on ds ])
-        (elim (l && true) [ true ↦ freed′ | false ↦ again (d .head) h ∷ on′ ds ])
-    go false before k = stays (again (d .head) h) (c ds q)
-    go true false k = f
-    go true true k = goes (d .head) h (k tt) g
+    go : (b : Bool) → first-deed x (ps ++ es) ≡ or-else (first-deed x ps) (first-deed x es)
+        → _≡_ {A = Option Deed} (elim b [ true ↦ some p | false ↦ first-deed x (ps ++ es) ]) (or-else (elim b [ true ↦ some p | false ↦ first-deed x ps ]) (first-deed x es))
+    go true q = refl
+    go false q = q
 
-repeated-quiets : (es : List Deed) (ds : List First) (xs ys : List ℕ) → Each Loads es → Each Begun ds
-    → Quieted (repeated Once es ds xs) (repeated Always es ds ys)
-repeated-quiets [] ds xs ys p q = end
-repeated-quiets (defines l h ∷ es) ds xs ys p q =
-    defined-quiets (first-of (h .spot .value) ds) l h ds (λ v. repeated Once es v xs) (λ v. repeated Always es v ys) (p .0) q
-    (λ v b. repeated-quiets es v xs ys (p .1) b)
-repeated-quiets (repeats h ∷ es) ds xs ys p q =
-    repeat-quiets (first-of (h .spot .value) ds) (was-free (h .spot .value) xs) (was-free (h .spot .value) ys) h ds (λ v. repeated Once es v xs)
-    (λ v. repeated Always es v ys) (repeated Once es ds (h .spot .value ∷ xs)) (repeated Always es ds (h .spot .value ∷ ys))
-    (first-each Begun (h .spot .value) ds q) q (λ v b. repeated-quiets es v xs ys (p .1) b)
-    (repeated-quiets es ds (h .spot .value ∷ xs) (h .spot .value ∷ ys) (p .1) q) (repeated-quiets es ds xs (h .spot .value ∷ ys) (p .1) q)
+-- these are the first definitions of the names of these deeds
+abbrev Firsts : List First → List Deed → Type 0
+Firsts ds ps = (x : ℕ) → first-of x ds ≡ as-first (first-deed x ps)
+
+none-some : {A : Type 0} {d : First} {o : Option First} → o ≡ none → o ≡ some d → A
+none-some p q = let z : _≡_ {A = ℕ} 0 1 = cc in absurd (omega arith)
+
+module _ (ds : List First) (ps : List Deed) (e : Deed) (k : Firsts ds ps) where
+  abbrev x-of : ℕ
+  x-of = head-of e .spot .value
+
+  -- a name that was defined stays as it was
+  defined-firsts : (d : First) → first-of x-of ds ≡ some d → Firsts ds (ps ++ (e ∷ []))
+  defined-firsts d q x = k x ∙ go (first-deed x ps) refl (eqb x x-of) refl ∙ ap as-first (sym (first-joined x ps (e ∷ [])))
+    where
+      go : (o : Option Deed) → first-deed x ps ≡ o → (b : Bool) → eqb x x-of ≡ b → as-first o ≡ as-first (or-else o (elim b [ true ↦ some e | false ↦ none ]))
+      go (some a) p b c = refl
+      go none p true c = none-some (k x ∙ ap as-first p) (ap (λ (n : ℕ). first-of n ds) (eqb-true x x-of c) ∙ q)
+      go none p false c = refl
+
+  -- a new one is defined by this deed
+  new-firsts : first-of x-of ds ≡ none → Firsts (record { head = head-of e; loaded = loaded-of e } ∷ ds) (ps ++ (e ∷ []))
+  new-firsts q x = go (first-deed x ps) refl (eqb x x-of) refl ∙ ap as-first (sym (first-joined x ps (e ∷ [])))
+    where
+      go : (o : Option Deed) → first-deed x ps ≡ o → (b : Bool) → eqb x x-of ≡ b
+          → _≡_ {A = Option First} (elim b [ true ↦ some (record { head = head-of e; loaded = loaded-of e }) | false ↦ first-of x ds ]) (as-first (or-else o (elim b [ true ↦ some e | false ↦ none ])))
+      go none p true c = refl
+      go (some a) p true c = none-some (ap (λ (n : ℕ). first-of n ds) (eqb-true x x-of c) ∙ q) (k x ∙ ap as-first p)
+      go none p false c = k x ∙ ap as-first p
+      go (some a) p false c = k x ∙ ap as-first p
+
+-- a first definition by a load is a load's deed
+load-deed : (o : Option Deed) (d : First) → d .loaded ≡ true → as-first o ≡ some d → o ≡ some (defines true (d .head))
+load-deed none d l e = none-some refl e
+load-deed (some (defines true h)) d l e = cc
+load-deed (some (defines false h)) d l e = let z : _≡_ {A = ℕ} 0 1 = cc in absurd (omega arith)
+load-deed (some (repeats h)) d l e = let z : _≡_ {A = ℕ} 0 1 = cc in absurd (omega arith)
+
+-- ---- one deed, and all
+
+module _ (all ps es : List Deed) (ds : List First) (k : Firsts ds ps) where
+  -- what comes after the deed e
+  abbrev Next : Deed → Type 0
+  Next e = (ds′ : List First) → Firsts ds′ (ps ++ (e ∷ [])) → (xs ys : List ℕ) → Quieted all (repeated Once es ds′ xs) (repeated Always es ds′ ys)
+
+  defined-quiets : (e : Deed) (xs ys : List ℕ) → Next e → (o : Option First) → first-of (head-of e .spot .value) ds ≡ o
+      → Quieted all (defined o (loaded-of e) (head-of e) ds (λ v. repeated Once es v xs)) (defined o (loaded-of e) (head-of e) ds (λ v. repeated Always es v ys))
+  defined-quiets e xs ys c none q = c (record { head = head-of e; loaded = loaded-of e } ∷ ds) (new-firsts ds ps e k q) xs ys
+  defined-quiets e xs ys c (some d) q = stays (again (d .head) (head-of e)) (c ds (defined-firsts ds ps e k d q) xs ys)
+
+  exported : (h : Head) (d : First) → all ≡ ps ++ (repeats h ∷ es) → d .loaded ≡ true → first-of (h .spot .value) ds ≡ some d
+      → Re-export all (d .head) h
+  exported h d e l q =
+      record {
+        before = ps;
+        after = es;
+        there = e;
+        loaded =
+            ap (first-deed (h .spot .value)) e
+            ∙ first-joined (h .spot .value) ps (repeats h ∷ es)
+            ∙ ap (λ (o : Option Deed). or-else o (first-deed (h .spot .value) (repeats h ∷ es)))
+            (load-deed (first-deed (h .spot .value) ps) d l (sym (k (h .spot .value)) ∙ q));
+      }
+
+  repeat-quiets : (h : Head) (xs ys : List ℕ) → all ≡ ps ++ (repeats h ∷ es) → Next (repeats h)
+      → (o : Option First) → first-of (h .spot .value) ds ≡ o → (b b′ : Bool)
+      → Quieted all (elim (may-repeat Once o b) [ true ↦ repeated Once es ds (h .spot .value ∷ xs) | false ↦ defined o false h ds (λ v. repeated Once es v xs) ])
+      (elim (may-repeat Always o b′) [ true ↦ repeated Always es ds (h .spot .value ∷ ys) | false ↦ defined o false h ds (λ v. repeated Always es v ys) ])
+  repeat-quiets h xs ys e c none q b b′ = defined-quiets (repeats h) xs ys c none q
+  repeat-quiets h xs ys e c (some d) q b b′ = go (d .loaded) refl b
+    where
+      same : Firsts ds (ps ++ (repeats h ∷ []))
+      same = defined-firsts ds ps (repeats h) k d q
+
+      go : (l : Bool) → d .loaded ≡ l → (b : Bool)
+          → Quieted all (elim (l && not b) [ true ↦ repeated Once es ds (h .spot .value ∷ xs) | false ↦ again (d .head) h ∷ repeated Once es ds xs ])
+          (elim (l && true) [ true ↦ repeated Always es ds (h .spot .value ∷ ys) | false ↦ again (d .head) h ∷ repeated Always es ds ys ])
+      go false l b = stays (again (d .head) h) (c ds same xs ys)
+      go true l false = c ds same (h .spot .value ∷ xs) (h .spot .value ∷ ys)
+      go true l true = goes (d .head) h (exported h d e l q) (c ds same xs (h .spot .value ∷ ys))
+
+deeds-quiet : (all ps es : List Deed) (ds : List First) (xs ys : List ℕ) → all ≡ ps ++ es → Firsts ds ps
+    → Quieted all (repeated Once es ds xs) (repeated Always es ds ys)
+deeds-quiet all ps [] ds xs ys e k = end
+deeds-quiet all ps (defines l h ∷ es) ds xs ys e k =
+    defined-quiets all ps es ds k (defines l h) xs ys (λ ds′ k′ xs′ ys′. deeds-quiet all (ps ++ (defines l h ∷ [])) es ds′ xs′ ys′ (e ∙ sym (append-assoc ps (defines l h ∷ []) es)) k′) (first-of (h .spot .value) ds) refl
+deeds-quiet all ps (repeats h ∷ es) ds xs ys e k =
+    repeat-quiets all ps es ds k h xs ys e (λ ds′ k′ xs′ ys′. deeds-quiet all (ps ++ (repeats h ∷ [])) es ds′ xs′ ys′ (e ∙ sym (append-assoc ps (repeats h ∷ []) es)) k′)
+    (first-of (h .spot .value) ds) refl (was-free (h .spot .value) xs) (was-free (h .spot .value) ys)
 
 -- ---- lists
 
-before : (xs : List Rec) {ys zs : List Rec} → Quieted ys zs → Quieted (xs ++ ys) (xs ++ zs)
-before [] q = q
-before (x ∷ xs) q = stays x (before xs q)
+module _ {es : List Deed} where
+  in-front : (xs : List Rec) {ys zs : List Rec} → Quieted es ys zs → Quieted es (xs ++ ys) (xs ++ zs)
+  in-front [] q = q
+  in-front (x ∷ xs) q = stays x (in-front xs q)
 
-behind : {ys zs : List Rec} → Quieted ys zs → (xs : List Rec) → Quieted (ys ++ xs) (zs ++ xs)
-behind end xs = go xs
-  where
-    go : (xs : List Rec) → Quieted xs xs
-    go [] = end
-    go (x ∷ xs) = stays x (go xs)
-behind (stays r q) xs = stays r (behind q xs)
-behind (goes old h k q) xs = goes old h k (behind q xs)
+  unchanged : (xs : List Rec) → Quieted es xs xs
+  unchanged [] = end
+  unchanged (x ∷ xs) = stays x (unchanged xs)
+
+  behind : {ys zs : List Rec} → Quieted es ys zs → (xs : List Rec) → Quieted es (ys ++ xs) (zs ++ xs)
+  behind end xs = unchanged xs
+  behind (stays r q) xs = stays r (behind q xs)
+  behind (goes g h e q) xs = goes g h e (behind q xs)
 
 -- ---- files
 
@@ -118,15 +169,15 @@ module _ (t u : List ℕ) (s : Twins t u) where
   same-dubious mode = rw (same-table t u s, same-tree t u s)
 
   module _ (one : versionOf t ≡ 1) (two : versionOf u ≡ 2) where
-    incompatible-quieted : Quieted (incompatible-list t) (incompatible-list u)
+    incompatible-quieted : Quieted (deeds (treeOf u)) (incompatible-list t) (incompatible-list u)
     unfolding incompatible-list
     incompatible-quieted =
         rw (one, two, same-table t u s, same-tree t u s)
-        (before (each (check-at (spells (tableOf u) type-name) (spells-one (tableOf u) five-types)) (treeOf u))
-        (repeated-quiets (deeds (treeOf u)) [] [] [] (deeds-load (treeOf u)) tt))
+        (in-front (each (check-at (spells (tableOf u) type-name) (spells-one (tableOf u) five-types)) (treeOf u))
+        (deeds-quiet (deeds (treeOf u)) [] (deeds (treeOf u)) [] [] [] refl (λ x. refl)))
 
-    pub quieted : (mode : Mode) → Quieted (lint-list mode t) (lint-list mode u)
+    pub quieted : (mode : Mode) → Quieted (deeds (treeOf u)) (lint-list mode t) (lint-list mode u)
     unfolding lint-list
     quieted mode =
         rw (same-names, same-flow, same-dubious mode)
-        (before (names-list u) (before (flow-list u) (behind incompatible-quieted (dubious-list mode u))))
+        (in-front (names-list u) (in-front (flow-list u) (behind incompatible-quieted (dubious-list mode u))))

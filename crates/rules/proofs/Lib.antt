@@ -26,7 +26,6 @@ pub mod Numbered
 pub mod Seven
 pub mod Peak
 pub mod Few
-pub mod Deeds
 pub mod Dialect
 pub mod Tally
 pub mod Whole

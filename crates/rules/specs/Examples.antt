@@ -1,5 +1,6 @@
 -- More files with their lists, beside the starred ones (Known): every code that those don't show, the five loops that are taken twice,
--- 01's 47 bytes, both reasons of 02, §11, whole floats of every size (02, §2), both versions (02, §9), nodes that share span and name (02, §4), and each limit at its number and one past it.
+-- 01's 47 bytes, both reasons of 02, §11, whole floats of every size (02, §2), both versions (02, §9), nodes that share span and name (02,
+-- §4), and each limit at its number and one past it.
 -- Assumes nothing.
 use Prim.Native.Nat.{ℕ, zero, suc}
 use mathlib.Core.Bool.{Bool, true, _&&_}
@@ -10,7 +11,7 @@ use Rattle.tree.specs.Judge.{judged, numberOf, placeOf}
 use Rattle.tree.specs.declared.Judged.{Judged}
 use Rattle.tree.specs.declared.Judged.the-variants.{Valid, Refused}
 use Rattle.tree.specs.Written.{u16, node-of, value-of, joined, headed, file-of, file}
-use Rattle.rules.specs.Known.{Row, in-both}
+use Rattle.rules.specs.Known.{Row, in-either-mode}
 
 -- a header, with nothing after it
 abbrev pub header : ℕ → ℕ → ℕ → ℕ → List ℕ
@@ -441,7 +442,7 @@ six-loops =
     ∷ value-of 3 (0x01 ∷ [])
     ∷ [])
 
--- Three files in a version (02, §9).
+-- Three files, each in either version (02, §9).
 
 -- load("rates.star", "sidereal")
 --
@@ -576,24 +577,24 @@ result-last =
 -- the later one is held against; 02, §2: strict, a whole float equals its integer at every size, an infinity only itself;
 -- "twice while the count of enclosing for statements (itself counted, through defs too) is at most 5, once from 6": the for in the def is the
 -- fifth, and its second round finds a set in the first (6); it is the sixth, and its one round finds no a (4);
--- 02, §9: "x = x, where x was first defined by a load, is then free each time": of a name that an assign defined first it isn't in either version,
--- of a loaded name that is set in between it is, and where a load comes after x = x neither the load nor what follows is free;
+-- 02, §9: "x = x, where x was first defined by a load, is then free each time": of a name that an assign defined first it isn't, in either
+-- version; of a loaded name that is set in between it is; and where a load comes after x = x neither the load nor what follows is free;
 -- 02, §4: "the one that the names walk meets first", where the file's first is node 1, 2 and 3
 abbrev pub examples : List Row
 examples =
-    in-both (file one-literal value-one) (13 ∷ 0 ∷ 1 ∷ 65535 ∷ 0 ∷ 0 ∷ 0 ∷ 0 ∷ 1 ∷ 65535 ∷ [])
-    ∷ in-both (file-given [] one-literal value-one) (13 ∷ 0 ∷ 1 ∷ 65535 ∷ 0 ∷ 0 ∷ 0 ∷ 0 ∷ 1 ∷ 65535 ∷ [])
-    ∷ in-both unused-load (1 ∷ 19 ∷ 29 ∷ 0 ∷ 0 ∷ 0 ∷ 0 ∷ 0 ∷ 1 ∷ 65535 ∷ [])
-    ∷ in-both unused-argument (3 ∷ 6 ∷ 7 ∷ 1 ∷ 0 ∷ 0 ∷ 0 ∷ 0 ∷ 2 ∷ 65535 ∷ [])
-    ∷ in-both using-unassigned (4 ∷ 6 ∷ 7 ∷ 0 ∷ 0 ∷ 0 ∷ 0 ∷ 0 ∷ 4 ∷ 65535 ∷ [])
-    ∷ in-both using-undefined (5 ∷ 23 ∷ 24 ∷ 0 ∷ 0 ∷ 0 ∷ 0 ∷ 0 ∷ 3 ∷ 65535 ∷ [])
-    ∷ in-both missing-return-expression (7 ∷ 28 ∷ 34 ∷ 1 ∷ 0 ∷ 47 ∷ 39 ∷ 47 ∷ 6 ∷ 0 ∷ [])
-    ∷ in-both redundant-return (10 ∷ 13 ∷ 19 ∷ 65535 ∷ 0 ∷ 0 ∷ 0 ∷ 0 ∷ 3 ∷ 65535 ∷ [])
-    ∷ in-both redundant-continue (11 ∷ 17 ∷ 25 ∷ 65535 ∷ 0 ∷ 0 ∷ 0 ∷ 0 ∷ 4 ∷ 65535 ∷ [])
-    ∷ in-both misplaced-load (12 ∷ 8 ∷ 38 ∷ 65535 ∷ 0 ∷ 0 ∷ 0 ∷ 0 ∷ 4 ∷ 65535 ∷ [])
-    ∷ in-both incompatible-type-check (14 ∷ 6 ∷ 20 ∷ 1 ∷ 0 ∷ 0 ∷ 0 ∷ 0 ∷ 3 ∷ 65535 ∷ [])
-    ∷ in-both ident-as-statement (17 ∷ 0 ∷ 1 ∷ 0 ∷ 0 ∷ 0 ∷ 0 ∷ 0 ∷ 1 ∷ 65535 ∷ [])
-    ∷ in-both two-reasons
+    in-either-mode (file one-literal value-one) (13 ∷ 0 ∷ 1 ∷ 65535 ∷ 0 ∷ 0 ∷ 0 ∷ 0 ∷ 1 ∷ 65535 ∷ [])
+    ∷ in-either-mode (file-given [] one-literal value-one) (13 ∷ 0 ∷ 1 ∷ 65535 ∷ 0 ∷ 0 ∷ 0 ∷ 0 ∷ 1 ∷ 65535 ∷ [])
+    ∷ in-either-mode unused-load (1 ∷ 19 ∷ 29 ∷ 0 ∷ 0 ∷ 0 ∷ 0 ∷ 0 ∷ 1 ∷ 65535 ∷ [])
+    ∷ in-either-mode unused-argument (3 ∷ 6 ∷ 7 ∷ 1 ∷ 0 ∷ 0 ∷ 0 ∷ 0 ∷ 2 ∷ 65535 ∷ [])
+    ∷ in-either-mode using-unassigned (4 ∷ 6 ∷ 7 ∷ 0 ∷ 0 ∷ 0 ∷ 0 ∷ 0 ∷ 4 ∷ 65535 ∷ [])
+    ∷ in-either-mode using-undefined (5 ∷ 23 ∷ 24 ∷ 0 ∷ 0 ∷ 0 ∷ 0 ∷ 0 ∷ 3 ∷ 65535 ∷ [])
+    ∷ in-either-mode missing-return-expression (7 ∷ 28 ∷ 34 ∷ 1 ∷ 0 ∷ 47 ∷ 39 ∷ 47 ∷ 6 ∷ 0 ∷ [])
+    ∷ in-either-mode redundant-return (10 ∷ 13 ∷ 19 ∷ 65535 ∷ 0 ∷ 0 ∷ 0 ∷ 0 ∷ 3 ∷ 65535 ∷ [])
+    ∷ in-either-mode redundant-continue (11 ∷ 17 ∷ 25 ∷ 65535 ∷ 0 ∷ 0 ∷ 0 ∷ 0 ∷ 4 ∷ 65535 ∷ [])
+    ∷ in-either-mode misplaced-load (12 ∷ 8 ∷ 38 ∷ 65535 ∷ 0 ∷ 0 ∷ 0 ∷ 0 ∷ 4 ∷ 65535 ∷ [])
+    ∷ in-either-mode incompatible-type-check (14 ∷ 6 ∷ 20 ∷ 1 ∷ 0 ∷ 0 ∷ 0 ∷ 0 ∷ 3 ∷ 65535 ∷ [])
+    ∷ in-either-mode ident-as-statement (17 ∷ 0 ∷ 1 ∷ 0 ∷ 0 ∷ 0 ∷ 0 ∷ 0 ∷ 1 ∷ 65535 ∷ [])
+    ∷ in-either-mode two-reasons
     (16 ∷ 5 ∷ 6 ∷ 1 ∷ 11 ∷ 12 ∷ 1 ∷ 0 ∷ 3 ∷ 5
     ∷ 16 ∷ 17 ∷ 18 ∷ 4 ∷ 23 ∷ 26 ∷ 2 ∷ 0 ∷ 7 ∷ 9
     ∷ 16 ∷ 23 ∷ 26 ∷ 4 ∷ 31 ∷ 34 ∷ 1 ∷ 0 ∷ 9 ∷ 11
@@ -615,37 +616,37 @@ examples =
           ∷ 16 ∷ 160 ∷ 165 ∷ 11 ∷ 170 ∷ 175 ∷ 1 ∷ 0 ∷ 33 ∷ 35
           ∷ []);
     }
-    ∷ in-both five-loops (6 ∷ 122 ∷ 123 ∷ 1 ∷ 0 ∷ 0 ∷ 0 ∷ 0 ∷ 21 ∷ 65535 ∷ [])
-    ∷ in-both six-loops (4 ∷ 149 ∷ 150 ∷ 1 ∷ 0 ∷ 0 ∷ 0 ∷ 0 ∷ 24 ∷ 65535 ∷ [])
-    ∷ in-both (re-export 1)
+    ∷ in-either-mode five-loops (6 ∷ 122 ∷ 123 ∷ 1 ∷ 0 ∷ 0 ∷ 0 ∷ 0 ∷ 21 ∷ 65535 ∷ [])
+    ∷ in-either-mode six-loops (4 ∷ 149 ∷ 150 ∷ 1 ∷ 0 ∷ 0 ∷ 0 ∷ 0 ∷ 24 ∷ 65535 ∷ [])
+    ∷ in-either-mode (re-export 1)
     (15 ∷ 76 ∷ 81 ∷ 0 ∷ 65 ∷ 70 ∷ 0 ∷ 0 ∷ 10 ∷ 7
     ∷ 15 ∷ 90 ∷ 98 ∷ 1 ∷ 32 ∷ 42 ∷ 0 ∷ 0 ∷ 13 ∷ 2
     ∷ [])
-    ∷ in-both (re-export 2) (15 ∷ 76 ∷ 81 ∷ 0 ∷ 65 ∷ 70 ∷ 0 ∷ 0 ∷ 10 ∷ 7 ∷ [])
-    ∷ in-both (set-between 1)
+    ∷ in-either-mode (re-export 2) (15 ∷ 76 ∷ 81 ∷ 0 ∷ 65 ∷ 70 ∷ 0 ∷ 0 ∷ 10 ∷ 7 ∷ [])
+    ∷ in-either-mode (set-between 1)
     (1 ∷ 10 ∷ 13 ∷ 0 ∷ 0 ∷ 0 ∷ 0 ∷ 0 ∷ 2 ∷ 65535
     ∷ 15 ∷ 15 ∷ 16 ∷ 0 ∷ 10 ∷ 13 ∷ 0 ∷ 0 ∷ 4 ∷ 2
     ∷ 15 ∷ 27 ∷ 28 ∷ 0 ∷ 10 ∷ 13 ∷ 0 ∷ 0 ∷ 10 ∷ 2
     ∷ [])
-    ∷ in-both (set-between 2)
+    ∷ in-either-mode (set-between 2)
     (1 ∷ 10 ∷ 13 ∷ 0 ∷ 0 ∷ 0 ∷ 0 ∷ 0 ∷ 2 ∷ 65535
     ∷ 15 ∷ 15 ∷ 16 ∷ 0 ∷ 10 ∷ 13 ∷ 0 ∷ 0 ∷ 4 ∷ 2
     ∷ [])
-    ∷ in-both (loaded-later 1)
+    ∷ in-either-mode (loaded-later 1)
     (4 ∷ 4 ∷ 5 ∷ 0 ∷ 0 ∷ 0 ∷ 0 ∷ 0 ∷ 3 ∷ 65535
     ∷ 12 ∷ 6 ∷ 20 ∷ 65535 ∷ 0 ∷ 0 ∷ 0 ∷ 0 ∷ 4 ∷ 65535
     ∷ 15 ∷ 16 ∷ 19 ∷ 0 ∷ 0 ∷ 1 ∷ 0 ∷ 0 ∷ 5 ∷ 2
     ∷ 15 ∷ 21 ∷ 22 ∷ 0 ∷ 0 ∷ 1 ∷ 0 ∷ 0 ∷ 7 ∷ 2
     ∷ [])
-    ∷ in-both (loaded-later 2)
+    ∷ in-either-mode (loaded-later 2)
     (4 ∷ 4 ∷ 5 ∷ 0 ∷ 0 ∷ 0 ∷ 0 ∷ 0 ∷ 3 ∷ 65535
     ∷ 12 ∷ 6 ∷ 20 ∷ 65535 ∷ 0 ∷ 0 ∷ 0 ∷ 0 ∷ 4 ∷ 65535
     ∷ 15 ∷ 16 ∷ 19 ∷ 0 ∷ 0 ∷ 1 ∷ 0 ∷ 0 ∷ 5 ∷ 2
     ∷ 15 ∷ 21 ∷ 22 ∷ 0 ∷ 0 ∷ 1 ∷ 0 ∷ 0 ∷ 7 ∷ 2
     ∷ [])
-    ∷ in-both value-first (4 ∷ 0 ∷ 1 ∷ 0 ∷ 0 ∷ 0 ∷ 0 ∷ 0 ∷ 2 ∷ 65535 ∷ [])
-    ∷ in-both default-first (3 ∷ 6 ∷ 7 ∷ 1 ∷ 0 ∷ 0 ∷ 0 ∷ 0 ∷ 3 ∷ 65535 ∷ [])
-    ∷ in-both result-last (3 ∷ 8 ∷ 9 ∷ 0 ∷ 0 ∷ 0 ∷ 0 ∷ 0 ∷ 6 ∷ 65535 ∷ [])
+    ∷ in-either-mode value-first (4 ∷ 0 ∷ 1 ∷ 0 ∷ 0 ∷ 0 ∷ 0 ∷ 0 ∷ 2 ∷ 65535 ∷ [])
+    ∷ in-either-mode default-first (3 ∷ 6 ∷ 7 ∷ 1 ∷ 0 ∷ 0 ∷ 0 ∷ 0 ∷ 3 ∷ 65535 ∷ [])
+    ∷ in-either-mode result-last (3 ∷ 8 ∷ 9 ∷ 0 ∷ 0 ∷ 0 ∷ 0 ∷ 0 ∷ 6 ∷ 65535 ∷ [])
     ∷ []
 
 -- ---- the limits
@@ -671,9 +672,9 @@ nested (suc n) = node-of 8 0 (suc n) 0 0 65535 ∷ nested n
 abbrev pub of-value : List ℕ → List ℕ
 of-value v = file (node-of 3 0 1 0 0 65535 ∷ []) (v ∷ [])
 
--- Under 11 bytes: 1. 02, §9: "2 is given for versions other than 1 and 2". "nodes 0 or over 1,024; values over 512; globals over 512 and not 65535": 3; at their numbers
--- these headers, with nothing after them, are refused for their sections only. A value of 255 bytes and of 256, an integer of 64
--- and of 65, a depth of 48 and of 49.
+-- Under 11 bytes: 1. "versions other than 1 and 2" (02, §9): 2. "nodes 0 or over 1,024; values over 512; globals over 512 and not 65535": 3;
+-- at their numbers these headers, with nothing after them, are refused for their sections only. A value of 255 bytes and of 256, an integer
+-- of 64 and of 65, a depth of 48 and of 49; a file of version 2.
 abbrev pub borders : List Border
 borders =
     refuses 1 0 (83 ∷ 76 ∷ 84 ∷ 1 ∷ 0 ∷ 1 ∷ 0 ∷ 0 ∷ 0 ∷ 0 ∷ [])

@@ -104,7 +104,7 @@ abbrev pub defined : Option First → Bool → Head → List First → (List Fir
 defined none l h ds on = on (record { head = h; loaded = l } ∷ ds)
 defined (some d) l h ds on = again (d .head) h ∷ on ds
 
--- "x = x, where the first definition of x is a load, is free once"; 02, §9: "is then free each time"; before: it was free already
+-- "x = x, where the first definition of x is a load, is free once"; 02, §9, of version 2: "is then free each time"; before: it was free already
 abbrev pub free : Allowance → Bool → Bool
 free Once before = not before
 free Always before = true
@@ -127,7 +127,7 @@ module _ (allowed : Allowance) where
 abbrev pub incompatible : Allowance → (ℕ → Bool) → (ℕ → Bool) → Forest → List Rec
 incompatible allowed is-type names-type f = each (check-at is-type names-type) f ++ repeated allowed (deeds f) [] []
 
--- 02, §9: "Tree version 2 has version 1's layout; x = x, where x was first defined by a load, is then free each time."
+-- the allowance of a tree file's version
 abbrev pub allowance : ℕ → Allowance
 allowance version = pick (eqb version 2) Always Once
 

@@ -195,8 +195,9 @@ pub record Row : Type 0 where
   pub ordinarily : List ℕ
   pub strictly : List ℕ
 
-abbrev pub in-both : List ℕ → List ℕ → Row
-in-both t ns = record { tree = t; ordinarily = ns; strictly = ns }
+-- the same list in both
+abbrev pub in-either-mode : List ℕ → List ℕ → Row
+in-either-mode t ns = record { tree = t; ordinarily = ns; strictly = ns }
 
 -- "Empty statements root: nothing."
 -- "Names: at module level, for i in xs with print(a), a = 1 inside: one 6 at the use of a."
@@ -208,21 +209,21 @@ in-both t ns = record { tree = t; ordinarily = ns; strictly = ns }
 -- "def g() -> None with return 1 only inside an if: 8."
 abbrev pub rows : List Row
 rows =
-    in-both empty []
-    ∷ in-both looped (6 ∷ 21 ∷ 22 ∷ 0 ∷ 0 ∷ 0 ∷ 0 ∷ 0 ∷ 8 ∷ 65535 ∷ [])
-    ∷ in-both both-return (9 ∷ 59 ∷ 65 ∷ 65535 ∷ 0 ∷ 0 ∷ 0 ∷ 0 ∷ 13 ∷ 65535 ∷ [])
-    ∷ in-both set-twice
+    in-either-mode empty []
+    ∷ in-either-mode looped (6 ∷ 21 ∷ 22 ∷ 0 ∷ 0 ∷ 0 ∷ 0 ∷ 0 ∷ 8 ∷ 65535 ∷ [])
+    ∷ in-either-mode both-return (9 ∷ 59 ∷ 65 ∷ 65535 ∷ 0 ∷ 0 ∷ 0 ∷ 0 ∷ 13 ∷ 65535 ∷ [])
+    ∷ in-either-mode set-twice
     (2 ∷ 0 ∷ 1 ∷ 0 ∷ 0 ∷ 0 ∷ 0 ∷ 0 ∷ 2 ∷ 65535
     ∷ 15 ∷ 6 ∷ 7 ∷ 0 ∷ 0 ∷ 1 ∷ 0 ∷ 0 ∷ 5 ∷ 2
     ∷ [])
-    ∷ in-both three-ones
+    ∷ in-either-mode three-ones
     (16 ∷ 5 ∷ 6 ∷ 3 ∷ 11 ∷ 14 ∷ 2 ∷ 0 ∷ 3 ∷ 5
     ∷ 16 ∷ 11 ∷ 14 ∷ 2 ∷ 19 ∷ 20 ∷ 2 ∷ 0 ∷ 5 ∷ 7
     ∷ [])
     ∷ record { tree = large-keys; ordinarily = []; strictly = 16 ∷ 5 ∷ 16 ∷ 3 ∷ 21 ∷ 25 ∷ 2 ∷ 0 ∷ 3 ∷ 5 ∷ [] }
-    ∷ in-both (loaded 1) (15 ∷ 21 ∷ 22 ∷ 0 ∷ 10 ∷ 13 ∷ 0 ∷ 0 ∷ 7 ∷ 2 ∷ [])
-    ∷ in-both (loaded 2) []
-    ∷ in-both some-return (8 ∷ 0 ∷ 37 ∷ 1 ∷ 29 ∷ 37 ∷ 0 ∷ 0 ∷ 1 ∷ 6 ∷ [])
+    ∷ in-either-mode (loaded 1) (15 ∷ 21 ∷ 22 ∷ 0 ∷ 10 ∷ 13 ∷ 0 ∷ 0 ∷ 7 ∷ 2 ∷ [])
+    ∷ in-either-mode (loaded 2) []
+    ∷ in-either-mode some-return (8 ∷ 0 ∷ 37 ∷ 1 ∷ 29 ∷ 37 ∷ 0 ∷ 0 ∷ 1 ∷ 6 ∷ [])
     ∷ []
 
 abbrev pub is-valid : Judged → Bool

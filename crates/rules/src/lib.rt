@@ -1,4 +1,4 @@
-// What every pass answers. The rules themselves stand in specs/, as definitions.
+// What every pass answers, and how often x = x is free in a file. The rules themselves stand in specs/, as definitions.
 ghost use mathlib.Core.Path.{_≡_};
 ghost use Rattle.rules.specs.Incompatible.{allowance, free};
 ghost use Rattle.rules.specs.Outcome.{numberOf, placeOf};

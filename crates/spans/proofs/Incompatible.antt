@@ -1,17 +1,17 @@
 -- Incompatible's records, 14 and 15, are made of the tree's nodes. Assumes nothing.
 use Prim.Native.Nat.{ℕ}
-use mathlib.Core.Bool.{Bool, false, _&&_, _||_}
+use mathlib.Core.Bool.{Bool, true, false, cond, _&&_, _||_}
 use mathlib.Core.List.{List, [], _∷_}
 use mathlib.Core.Option.{Option, none, some}
-use lib.Dec.{eqb}
-use Rattle.tree.specs.Forest.{Head, Forest}
+use lib.Dec.{eqb, T}
+use Rattle.tree.specs.Forest.{Head, Forest, Forest.none as leaf, node}
 use Rattle.rules.specs.Record.{Rec, valued-at, Each}
-use Rattle.rules.specs.Visit.{kind-at, spot-at, each}
+use Rattle.rules.specs.Visit.{look, head-at, kind-at, spot-at, each}
+use Rattle.rules.specs.Order.{Bind, Bind.one as binds-one, several, nothing, bind-of}
 use Rattle.rules.specs.declared.Allowance.{Allowance}
-use Rattle.rules.specs.Incompatible.{identifier, check-at, type-check, Deed, defines, repeats, deeds, First, first-of, was-free, defined, may-repeat, repeated, incompatible}
+use Rattle.rules.specs.Incompatible.{identifier, check-at, type-check, Deed, defines, repeats, deed-part, defined-names, self-set, Top, assigning, modifying, defining, loading, holding, aside, tops, top-part, deeds, First, first-of, was-free, defined, may-repeat, repeated, incompatible}
 use Rattle.rules.proofs.Bools.{and-left}
 use Rattle.rules.proofs.Each.{If-some, either, join, listed-each}
-use Rattle.rules.proofs.Deeds.{deeds-all, first-each}
 use Rattle.spans.proofs.Made.{Throughout, Made, one, two, kind-has, place, each-made}
 
 module _ (P : Head → Type 0) where
@@ -24,10 +24,40 @@ module _ (P : Head → Type 0) where
   abbrev Begun : First → Type 0
   Begun d = P (d .head)
 
+  deed-done : (z : Bind) (h : Head) (k : Forest) → P h → Each Done (defined-names 0 k) → Each Done (deed-part z h (λ v. defined-names v k))
+  deed-done (binds-one o) h k p c = (p, tt)
+  deed-done several h k p c = c
+  deed-done nothing h k p c = tt
+
+  named-done : (f : Forest) → Throughout P f → (r : ℕ) → Each Done (defined-names r f)
+  named-done leaf o r = tt
+  named-done (node h k s) o r =
+      listed-each Done (eqb r (h .role)) (deed-part (bind-of h) h (λ v. defined-names v k)) (defined-names r s)
+      (deed-done (bind-of h) h k (o .0 .0) (named-done k (o .1 .0) 0)) (named-done s (o .1 .1) r)
+
+  cond-done : (b : Bool) (h : Head) (l : List Deed) → (T b → P h) → Each Done l → Each Done (cond b (repeats h ∷ []) l)
+  cond-done true h l p q = (p tt, tt)
+  cond-done false h l p q = q
+
+  top-done : (z : Top) (k : Forest) → Throughout P k → Each Done (deeds k) → Each Done (top-part z k (deeds k))
+  top-done assigning k o c =
+      cond-done (self-set k) (head-at 5 k) (defined-names 5 k)
+      (λ t. place P k o 5 (kind-has k 5 39 (and-left (eqb 40 (kind-at 5 k)) (identifier 4 (eqb (spot-at 5 k .value)) k) t))) (named-done k o 5)
+  top-done modifying k o c = named-done k o 5
+  top-done defining k o c = named-done k o 6
+  top-done loading k o c = named-done k o 0
+  top-done holding k o c = c
+  top-done aside k o c = tt
+
   deeds-done : (f : Forest) → Throughout P f → Each Done (deeds f)
-  deeds-done =
-      deeds-all (Throughout P) Done (λ h k s o. o .1 .0) (λ h k s o. o .1 .1) (λ h k s o b e. o .0 .0)
-      (λ k o t. place P k o 5 (kind-has k 5 39 (and-left (eqb 40 (kind-at 5 k)) (identifier 4 (eqb (spot-at 5 k .value)) k) t)))
+  deeds-done leaf o = tt
+  deeds-done (node h k s) o =
+      join Done (top-part (look (h .kind) tops aside) k (deeds k)) (deeds s)
+      (top-done (look (h .kind) tops aside) k (o .1 .0) (deeds-done k (o .1 .0))) (deeds-done s (o .1 .1))
+
+  first-begun : (x : ℕ) (ds : List First) → Each Begun ds → If-some Begun (first-of x ds)
+  first-begun x [] p = tt
+  first-begun x (d ∷ ds) p = either (If-some Begun) (eqb x (d .head .spot .value)) (some d) (first-of x ds) (p .0) (first-begun x ds (p .1))
 
   defined-made : (o : Option First) (l : Bool) (h : Head) (ds : List First) (on : List First → List Rec) → If-some Begun o → P h
       → Each Begun ds → ((v : List First) → Each Begun v → Each (Made P) (on v)) → Each (Made P) (defined o l h ds on)
@@ -38,13 +68,13 @@ module _ (P : Head → Type 0) where
     judge-made : (es : List Deed) (ds : List First) (xs : List ℕ) → Each Done es → Each Begun ds → Each (Made P) (repeated allowed es ds xs)
     judge-made [] ds xs p q = tt
     judge-made (defines l h ∷ es) ds xs p q =
-        defined-made (first-of (h .spot .value) ds) l h ds (λ v. repeated allowed es v xs) (first-each Begun (h .spot .value) ds q) (p .0) q
+        defined-made (first-of (h .spot .value) ds) l h ds (λ v. repeated allowed es v xs) (first-begun (h .spot .value) ds q) (p .0) q
         (λ v b. judge-made es v xs (p .1) b)
     judge-made (repeats h ∷ es) ds xs p q =
         either (Each (Made P)) (may-repeat allowed (first-of (h .spot .value) ds) (was-free (h .spot .value) xs))
         (repeated allowed es ds (h .spot .value ∷ xs)) (defined (first-of (h .spot .value) ds) false h ds (λ v. repeated allowed es v xs))
         (judge-made es ds (h .spot .value ∷ xs) (p .1) q)
-        (defined-made (first-of (h .spot .value) ds) false h ds (λ v. repeated allowed es v xs) (first-each Begun (h .spot .value) ds q) (p .0) q
+        (defined-made (first-of (h .spot .value) ds) false h ds (λ v. repeated allowed es v xs) (first-begun (h .spot .value) ds q) (p .0) q
         (λ v b. judge-made es v xs (p .1) b))
 
   -- INCOMPATIBLE

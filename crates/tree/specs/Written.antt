@@ -1,4 +1,5 @@
--- 01, "The tree file", written down, in either version: for files whose bytes a reader sees node by node. Assumes nothing.
+-- 01, "The tree file, version 1", whose layout version 2 has too (02, §9), written down: for files whose bytes a reader sees node by node.
+-- Assumes nothing.
 use Prim.Native.Nat.{ℕ, _/_, _%_}
 use mathlib.Core.List.{List, [], _∷_, _++_}
 use lib.ListN.{length}
