@@ -1,5 +1,5 @@
 -- 02, §9: version 2 changes nothing but 15, and there it only quiets. Of two files that differ in their version alone the lists of names,
--- flow and dubious are the same, and version 2's joined list is version 1's with 15s of re-exports left out. Assumes nothing.
+-- flow and dubious are the same, and version 2's joined list is version 1's without the 15s of re-exports. Assumes nothing.
 use Prim.Native.Nat.{ℕ}
 use native.Mathlib.Omega.{arith}
 use mathlib.Core.Path.{_≡_, refl, sym, ap, _∙_}
@@ -22,7 +22,7 @@ use Rattle.rules.specs.Flow.{flow-list}
 use Rattle.rules.specs.Incompatible.{check-at, Deed, defines, repeats, deeds, First, first-of, was-free, again, defined, may-repeat, repeated, type-name, five-types, spells-one, incompatible-list}
 use Rattle.rules.specs.Dubious.{dubious-list}
 use Rattle.rules.specs.Joined.{lint-list}
-use Rattle.rules.specs.Dialect.{head-of, first-deed, Re-export, Quieted, end, stays, goes}
+use Rattle.rules.specs.Dialect.{head-of, first-deed, Among, Quieted, end, goes, stays, stays-own, Quieted-in}
 
 -- ---- the rule's first definitions are the first deeds
 
@@ -78,12 +78,19 @@ module _ (ds : List First) (ps : List Deed) (e : Deed) (k : Firsts ds ps) where
       go none p false c = k x ∙ ap as-first p
       go (some a) p false c = k x ∙ ap as-first p
 
--- a first definition by a load is a load's deed
+-- a first definition is a deed of the name, by a load or not
 load-deed : (o : Option Deed) (d : First) → d .loaded ≡ true → as-first o ≡ some d → o ≡ some (defines true (d .head))
 load-deed none d l e = none-some refl e
 load-deed (some (defines true h)) d l e = cc
 load-deed (some (defines false h)) d l e = let z : _≡_ {A = ℕ} 0 1 = cc in absurd (omega arith)
 load-deed (some (repeats h)) d l e = let z : _≡_ {A = ℕ} 0 1 = cc in absurd (omega arith)
+
+other-deed : (o r : Option Deed) (d : First) → d .loaded ≡ false → as-first o ≡ some d → (g : Head) → or-else o r ≡ some (defines true g) → ⊥
+other-deed none r d l e g q = none-some refl e
+other-deed (some a) r d l e g q =
+    let n : as-first (some a) ≡ as-first (some (defines true g)) = ap as-first q in
+    let z : _≡_ {A = ℕ} 0 1 = cc in
+    omega arith
 
 -- ---- one deed, and all
 
@@ -92,66 +99,56 @@ module _ (all ps es : List Deed) (ds : List First) (k : Firsts ds ps) where
   abbrev Next : Deed → Type 0
   Next e = (ds′ : List First) → Firsts ds′ (ps ++ (e ∷ [])) → (xs ys : List ℕ) → Quieted all (repeated Once es ds′ xs) (repeated Always es ds′ ys)
 
-  defined-quiets : (e : Deed) (xs ys : List ℕ) → Next e → (o : Option First) → first-of (head-of e .spot .value) ds ≡ o
-      → Quieted all (defined o (loaded-of e) (head-of e) ds (λ v. repeated Once es v xs)) (defined o (loaded-of e) (head-of e) ds (λ v. repeated Always es v ys))
-  defined-quiets e xs ys c none q = c (record { head = head-of e; loaded = loaded-of e } ∷ ds) (new-firsts ds ps e k q) xs ys
-  defined-quiets e xs ys c (some d) q = stays (again (d .head) (head-of e)) (c ds (defined-firsts ds ps e k d q) xs ys)
+  among : (e : Deed) → all ≡ ps ++ (e ∷ es) → Among all e
+  among e there = record { earlier = ps; later = es; there = there }
 
-  exported : (h : Head) (d : First) → all ≡ ps ++ (repeats h ∷ es) → d .loaded ≡ true → first-of (h .spot .value) ds ≡ some d
-      → Re-export all (d .head) h
-  exported h d e l q =
-      record {
-        before = ps;
-        after = es;
-        there = e;
-        loaded =
-            ap (first-deed (h .spot .value)) e
-            ∙ first-joined (h .spot .value) ps (repeats h ∷ es)
-            ∙ ap (λ (o : Option Deed). or-else o (first-deed (h .spot .value) (repeats h ∷ es)))
-            (load-deed (first-deed (h .spot .value) ps) d l (sym (k (h .spot .value)) ∙ q));
-      }
+  first-here : (e : Deed) → all ≡ ps ++ (e ∷ es) → (x : ℕ) → first-deed x all ≡ or-else (first-deed x ps) (first-deed x (e ∷ es))
+  first-here e there x = ap (first-deed x) there ∙ first-joined x ps (e ∷ es)
+
+  -- a name that is defined, for the first time or again; stay: the record of a deed that comes again
+  defined-quiets : (e : Deed) (xs ys : List ℕ) → Next e
+      → ((d : First) → first-of (head-of e .spot .value) ds ≡ some d → (vs ws : List Rec) → Quieted all vs ws
+      → Quieted all (again (d .head) (head-of e) ∷ vs) (again (d .head) (head-of e) ∷ ws))
+      → (o : Option First) → first-of (head-of e .spot .value) ds ≡ o
+      → Quieted all (defined o (loaded-of e) (head-of e) ds (λ v. repeated Once es v xs)) (defined o (loaded-of e) (head-of e) ds (λ v. repeated Always es v ys))
+  defined-quiets e xs ys c stay none q = c (record { head = head-of e; loaded = loaded-of e } ∷ ds) (new-firsts ds ps e k q) xs ys
+  defined-quiets e xs ys c stay (some d) q = stay d q _ _ (c ds (defined-firsts ds ps e k d q) xs ys)
 
   repeat-quiets : (h : Head) (xs ys : List ℕ) → all ≡ ps ++ (repeats h ∷ es) → Next (repeats h)
       → (o : Option First) → first-of (h .spot .value) ds ≡ o → (b b′ : Bool)
       → Quieted all (elim (may-repeat Once o b) [ true ↦ repeated Once es ds (h .spot .value ∷ xs) | false ↦ defined o false h ds (λ v. repeated Once es v xs) ])
       (elim (may-repeat Always o b′) [ true ↦ repeated Always es ds (h .spot .value ∷ ys) | false ↦ defined o false h ds (λ v. repeated Always es v ys) ])
-  repeat-quiets h xs ys e c none q b b′ = defined-quiets (repeats h) xs ys c none q
+  repeat-quiets h xs ys e c none q b b′ = c (record { head = h; loaded = false } ∷ ds) (new-firsts ds ps (repeats h) k q) xs ys
   repeat-quiets h xs ys e c (some d) q b b′ = go (d .loaded) refl b
     where
       same : Firsts ds (ps ++ (repeats h ∷ []))
       same = defined-firsts ds ps (repeats h) k d q
 
+      first : as-first (first-deed (h .spot .value) ps) ≡ some d
+      first = sym (k (h .spot .value)) ∙ q
+
       go : (l : Bool) → d .loaded ≡ l → (b : Bool)
           → Quieted all (elim (l && not b) [ true ↦ repeated Once es ds (h .spot .value ∷ xs) | false ↦ again (d .head) h ∷ repeated Once es ds xs ])
           (elim (l && true) [ true ↦ repeated Always es ds (h .spot .value ∷ ys) | false ↦ again (d .head) h ∷ repeated Always es ds ys ])
-      go false l b = stays (again (d .head) h) (c ds same xs ys)
+      go false l b =
+          stays-own (d .head) h (among (repeats h) e)
+          (λ i w. other-deed (first-deed (h .spot .value) ps) (first-deed (h .spot .value) (repeats h ∷ es)) d l first i (sym (first-here (repeats h) e (h .spot .value)) ∙ w))
+          (c ds same xs ys)
       go true l false = c ds same (h .spot .value ∷ xs) (h .spot .value ∷ ys)
-      go true l true = goes (d .head) h (exported h d e l q) (c ds same xs (h .spot .value ∷ ys))
+      go true l true =
+          goes (d .head) h (among (repeats h) e)
+          (first-here (repeats h) e (h .spot .value) ∙ ap (λ (o : Option Deed). or-else o (first-deed (h .spot .value) (repeats h ∷ es))) (load-deed (first-deed (h .spot .value) ps) d l first))
+          (c ds same xs (h .spot .value ∷ ys))
 
 deeds-quiet : (all ps es : List Deed) (ds : List First) (xs ys : List ℕ) → all ≡ ps ++ es → Firsts ds ps
     → Quieted all (repeated Once es ds xs) (repeated Always es ds ys)
 deeds-quiet all ps [] ds xs ys e k = end
 deeds-quiet all ps (defines l h ∷ es) ds xs ys e k =
-    defined-quiets all ps es ds k (defines l h) xs ys (λ ds′ k′ xs′ ys′. deeds-quiet all (ps ++ (defines l h ∷ [])) es ds′ xs′ ys′ (e ∙ sym (append-assoc ps (defines l h ∷ []) es)) k′) (first-of (h .spot .value) ds) refl
+    defined-quiets all ps es ds k (defines l h) xs ys (λ ds′ k′ xs′ ys′. deeds-quiet all (ps ++ (defines l h ∷ [])) es ds′ xs′ ys′ (e ∙ sym (append-assoc ps (defines l h ∷ []) es)) k′)
+    (λ d q vs ws w. stays (d .head) h l (among all ps es ds k (defines l h) e) w) (first-of (h .spot .value) ds) refl
 deeds-quiet all ps (repeats h ∷ es) ds xs ys e k =
     repeat-quiets all ps es ds k h xs ys e (λ ds′ k′ xs′ ys′. deeds-quiet all (ps ++ (repeats h ∷ [])) es ds′ xs′ ys′ (e ∙ sym (append-assoc ps (repeats h ∷ []) es)) k′)
     (first-of (h .spot .value) ds) refl (was-free (h .spot .value) xs) (was-free (h .spot .value) ys)
-
--- ---- lists
-
-module _ {es : List Deed} where
-  in-front : (xs : List Rec) {ys zs : List Rec} → Quieted es ys zs → Quieted es (xs ++ ys) (xs ++ zs)
-  in-front [] q = q
-  in-front (x ∷ xs) q = stays x (in-front xs q)
-
-  unchanged : (xs : List Rec) → Quieted es xs xs
-  unchanged [] = end
-  unchanged (x ∷ xs) = stays x (unchanged xs)
-
-  behind : {ys zs : List Rec} → Quieted es ys zs → (xs : List Rec) → Quieted es (ys ++ xs) (zs ++ xs)
-  behind end xs = unchanged xs
-  behind (stays r q) xs = stays r (behind q xs)
-  behind (goes g h e q) xs = goes g h e (behind q xs)
 
 -- ---- files
 
@@ -168,16 +165,22 @@ module _ (t u : List ℕ) (s : Twins t u) where
   unfolding dubious-list
   same-dubious mode = rw (same-table t u s, same-tree t u s)
 
-  module _ (one : versionOf t ≡ 1) (two : versionOf u ≡ 2) where
-    incompatible-quieted : Quieted (deeds (treeOf u)) (incompatible-list t) (incompatible-list u)
-    unfolding incompatible-list
-    incompatible-quieted =
-        rw (one, two, same-table t u s, same-tree t u s)
-        (in-front (each (check-at (spells (tableOf u) type-name) (spells-one (tableOf u) five-types)) (treeOf u))
-        (deeds-quiet (deeds (treeOf u)) [] (deeds (treeOf u)) [] [] [] refl (λ x. refl)))
-
-    pub quieted : (mode : Mode) → Quieted (deeds (treeOf u)) (lint-list mode t) (lint-list mode u)
-    unfolding lint-list
-    quieted mode =
-        rw (same-names, same-flow, same-dubious mode)
-        (in-front (names-list u) (in-front (flow-list u) (behind incompatible-quieted (dubious-list mode u))))
+  pub quieted : (mode : Mode) → versionOf t ≡ 1 → versionOf u ≡ 2 → Quieted-in (deeds (treeOf u)) (lint-list mode t) (lint-list mode u)
+  unfolding lint-list incompatible-list
+  quieted mode one two =
+      let checks = each (check-at (spells (tableOf u) type-name) (spells-one (tableOf u) five-types)) (treeOf u) in
+      let es = deeds (treeOf u) in
+      record {
+        front = names-list u ++ (flow-list u ++ checks);
+        behind = dubious-list mode u;
+        ones = repeated Once es [] [];
+        others = repeated Always es [] [];
+        first = rw (same-names, same-flow, same-dubious mode, one, same-table t u s, same-tree t u s) (placed (names-list u) (flow-list u) checks (repeated Once es [] []) (dubious-list mode u));
+        second = rw two (placed (names-list u) (flow-list u) checks (repeated Always es [] []) (dubious-list mode u));
+        quieted = deeds-quiet es [] es [] [] [] refl (λ x. refl);
+      }
+    where
+      placed : (a b c x d : List Rec) → a ++ (b ++ ((c ++ x) ++ d)) ≡ (a ++ (b ++ c)) ++ (x ++ d)
+      placed a b c x d =
+          ap (λ (l : List Rec). a ++ (b ++ l)) (append-assoc c x d)
+          ∙ sym (append-assoc a (b ++ c) (x ++ d) ∙ ap (λ (l : List Rec). a ++ l) (append-assoc b c (x ++ d)))

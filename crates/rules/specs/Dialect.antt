@@ -1,7 +1,7 @@
 -- What version 2 changes of a list (02, §9), for a theorem: nobody has to believe it. Assumes nothing.
 use Prim.Native.Nat.{ℕ}
 use mathlib.Core.Path.{_≡_}
-use mathlib.Core.Bool.{true, false}
+use mathlib.Core.Bool.{Bool, true, false}
 use mathlib.Core.List.{List, [], _∷_, _++_}
 use mathlib.Core.Option.{Option, none, some}
 use lib.Dec.{eqb}
@@ -18,15 +18,31 @@ abbrev pub first-deed : ℕ → List Deed → Option Deed
 first-deed x [] = none
 first-deed x (e ∷ es) = elim (eqb x (head-of e .spot .value)) [ true ↦ some e | false ↦ first-deed x es ]
 
--- h is the target of an x = x among these deeds, "where x was first defined by a load", at the loaded name g
-pub record Re-export (es : List Deed) (g h : Head) : Type 0 where
-  pub before : List Deed
-  pub after : List Deed
-  pub there : es ≡ before ++ (repeats h ∷ after)
-  pub loaded : first-deed (h .spot .value) es ≡ some (defines true g)
+-- e is one of these deeds
+pub record Among (es : List Deed) (e : Deed) : Type 0 where
+  pub earlier : List Deed
+  pub later : List Deed
+  pub there : es ≡ earlier ++ (e ∷ later)
 
--- the second list is the first with records left out, each the 15 of a re-export
+-- "x was first defined by a load", at g
+abbrev pub Loaded : List Deed → ℕ → Head → Type 0
+Loaded es x g = first-deed x es ≡ some (defines true g)
+
+-- two lists of 15s: of the first those go that are re-exports, an x = x "where x was first defined by a load"; in the second stay those at
+-- another definition, and at an x = x of a name that wasn't
 pub data Quieted (es : List Deed) : List Rec → List Rec → Type 0 where
   end : Quieted es [] []
-  stays : {xs ys : List Rec} → (r : Rec) → Quieted es xs ys → Quieted es (r ∷ xs) (r ∷ ys)
-  goes : {xs ys : List Rec} → (g h : Head) → Re-export es g h → Quieted es xs ys → Quieted es (again g h ∷ xs) ys
+  goes : {xs ys : List Rec} (g h : Head) → Among es (repeats h) → Loaded es (h .spot .value) g → Quieted es xs ys → Quieted es (again g h ∷ xs) ys
+  stays : {xs ys : List Rec} (g h : Head) (l : Bool) → Among es (defines l h) → Quieted es xs ys → Quieted es (again g h ∷ xs) (again g h ∷ ys)
+  stays-own : {xs ys : List Rec} (g h : Head) → Among es (repeats h) → ((i : Head) → Loaded es (h .spot .value) i → ⊥) → Quieted es xs ys
+      → Quieted es (again g h ∷ xs) (again g h ∷ ys)
+
+-- two lists that are the same but for 15s in one place
+pub record Quieted-in (es : List Deed) (xs ys : List Rec) : Type 0 where
+  pub front : List Rec
+  pub behind : List Rec
+  pub ones : List Rec
+  pub others : List Rec
+  pub first : xs ≡ front ++ (ones ++ behind)
+  pub second : ys ≡ front ++ (others ++ behind)
+  pub quieted : Quieted es ones others
