@@ -38,7 +38,7 @@ MARK = b"\xef\xbb\xbf"
 LINE_END = re.compile(rb"\r\n?|\n")
 LISTED = re.compile(rb"(?:\A(?:\xef\xbb\xbf)?|[\r\n])# globals:([^\r\n]*)")
 DECLARED = re.compile(rb"(?:\A(?:\xef\xbb\xbf)?|[\r\n])# dialect:[ \t]*([^\r\n]*)")
-NEARLY = re.compile(rb"(?:\A(?:\xef\xbb\xbf)?|[\r\n])[ \t]*(#[# \t]*(?i:dialect)[ \t]*[:=]?[ \t]*\d)")
+NEARLY = re.compile(rb"(?:\A(?:\xef\xbb\xbf)?|[\r\n])[ \t]*(#[# \t]*(?i:dialect)[ \t]*[:=]?[ \t]*\d+)[ \t]*(?![^\r\n])")
 # What may stand between `def` and the name, and between a parameter and a lone star after it.
 BEFORE_NAME = re.compile(rb"def(?:[ \t\f]|\\(?:\r\n?|\n))*")
 BEFORE_STAR = re.compile(rb"(?:[\s,()\\]|#[^\r\n]*)*")

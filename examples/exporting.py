@@ -41,6 +41,7 @@ VERSIONS = [
     ("# dialect: 1\r\n# globals: x\r\n# dialect: 1\r\n", 1),
     ("x = 1 # dialect: 2\n", 1),
     ("# a dialect\n", 1),
+    ("# Dialect 2 lets a table repeat the line.\n", 1),
 ]
 
 # Python that is no Starlark: a script of one line, where in it, and what is named.
@@ -90,6 +91,7 @@ REFUSED = [
     ("# dialect: 2\n# dialect: 1", "2:12: another dialect than the script declared before"),
     ("x = 1\n #dialect 2\n", "2:2: a dialect that is declared otherwise than by a line `# dialect: 2`"),
     ("# Dialect: 2\n", "1:1: a dialect that is declared otherwise than by a line `# dialect: 2`"),
+    ("## dialect=2", "1:1: a dialect that is declared otherwise than by a line `# dialect: 2`"),
     # Limits, each one past its number.
     ("-" * 47 + "x", "1:48: nested deeper than 48; a tree takes at most that depth"),
     ("x = a" + " and a" * 47, "1:5: nested deeper than 48; a tree takes at most that depth"),
