@@ -9,9 +9,10 @@ parses by Python's `ast`, so it takes only what is the same in Starlark and Pyth
 stand in the order of docs/TREE.md's table; a body of one statement is that statement itself, as in the example of 47 bytes.
 
 Spans are byte offsets of the script as it stands in the file: a byte order mark counts as the three bytes that it is. A line
-ends with LF, CR LF or CR alone, as for Python. Lines `# globals: NAME ..` give the globals; without one they aren't given. A line
-`# dialect: 2` declares dialect 2, and the tree is of version 2; without one, or with `# dialect: 1`, it is of version 1. Such lines
-begin at the margin, and count inside a string too.
+ends with LF, CR LF or CR alone, as for Python. Lines `# globals: NAME ..` give the globals; without one they aren't given. The tree
+lists those that the script names, since no warning can be at another: so whatever else a release of the host adds, nodes and
+values stay, and a host may have any number of globals. A line `# dialect: 2` declares dialect 2, and the tree is of version 2;
+without one, or with `# dialect: 1`, it is of version 1. Such lines begin at the margin, and count inside a string too.
 
 A script that can't be read or exported gets one line on standard error and no tree:
 
@@ -411,7 +412,7 @@ class Script:
         self.stop(offset, f"nested deeper than {DEPTH}; a tree takes at most that depth")
 
     def globals(self):
-        """The globals' names, each with its place; None where no line gives them."""
+        """The globals' names; None where no line gives them."""
         lines = list(LISTED.finditer(self.source))
         words = [
             (line.start(1) + word.start(), word.group())
@@ -421,7 +422,7 @@ class Script:
         for offset, word in words:
             if not word.decode("utf-8", "replace").isidentifier():
                 self.stop(offset, "a global that is no name")
-        return words if lines else None
+        return [word for _, word in words] if lines else None
 
     def dialect(self):
         """The dialect that the script declares, which is its tree's version; 1 where no line does."""
@@ -437,7 +438,7 @@ class Script:
                 self.stop(offset, "another dialect than the script declared before")
         return int(lines[0][1]) if lines else 1
 
-    def hold(self, root, listed):
+    def hold(self, root):
         """Refuses what passes a limit."""
         entries = []
         for count, (node, depth) in enumerate(root.walk()):
@@ -447,10 +448,10 @@ class Script:
                 most = f"one node more than {NODES:,}; a tree takes at most so many"
                 self.stop(node.span[0], f"{most}, and the script has {root.size:,}")
             entries.append((node.span[0], node.value))
-        self.hold_values(entries + [(offset, (0, word)) for offset, word in listed or ()])
+        self.hold_values(entries)
 
     def hold_values(self, entries):
-        """Globals are values, so that there can't be too many of them alone."""
+        """Globals are values of nodes, so that there can't be too many of them alone."""
         seen = set()
         for offset, value in entries:
             if value is None:
@@ -494,8 +495,9 @@ def tree_file(source):
     """The tree file of a script's bytes."""
     script = Script(source)
     root, listed = script.module(), script.globals()
-    script.hold(root, listed)
-    return packed(root, None if listed is None else [word for _, word in listed], script.dialect())
+    script.hold(root)
+    named = {node.value for node, _ in root.walk()}
+    return packed(root, None if listed is None else [word for word in listed if (0, word) in named], script.dialect())
 
 
 def packed(root, listed, version=1):

@@ -4,6 +4,7 @@ examples/check runs them, alone with --exporter; no program of Rattle takes part
 """
 import os
 import pathlib
+import struct
 import subprocess
 import sys
 import tempfile
@@ -42,6 +43,17 @@ VERSIONS = [
     ("x = 1 # dialect: 2\n", 1),
     ("# a dialect\n", 1),
     ("# Dialect 2 lets a table repeat the line.\n", 1),
+]
+
+# Lines that give globals, and the numbers of those that the tree of NAMED lists: what the script doesn't name is left out.
+NAMED = "x = f(y)\n"
+GLOBALS = [
+    ("", None),
+    ("# globals:", []),
+    ("# globals: y f", [0, 2]),
+    ("# globals: y\n# globals: x y", [1, 2]),
+    ("# globals: sin cos " + "n" * 256 + " f", [0]),
+    ("# globals:" + "".join(f" g{i}" for i in range(600)), []),
 ]
 
 # Python that is no Starlark: a script of one line, where in it, and what is named.
@@ -102,10 +114,8 @@ REFUSED = [
     (f"x = {2**512}", "1:5: an integer of 65 bytes; a tree takes at most 64"),
     ("x = " + "9" * 5000, "1:5: an integer of 2,077 bytes; a tree takes at most 64"),
     ("n" * 256 + " = 1", "1:1: a name of 256 bytes; a tree takes at most 255"),
-    ("# globals: " + "n" * 256, "1:12: a name of 256 bytes; a tree takes at most 255"),
     ("pass\n" * 1024, "1024:1: one node more than 1,024; a tree takes at most so many, and the script has 1,025"),
     ("[" + ",".join(f"a{i}" for i in range(513)) + "]", "1:2452: one value more than 512; "),
-    ("a\n# globals:" + "".join(f" g{i}" for i in range(512)), "2:2457: one value more than 512; "),
     # Past what Python itself can nest, where the parser gives no place.
     ("-" * 30000 + "x", ": nested deeper than Python's parser goes; a tree takes at most a depth of 48"),
     ("(" * 300 + ")" * 300, "1:201: "),
@@ -120,7 +130,7 @@ AT_LIMITS = [
     "n" * 255 + " = 1",
     "pass\n" * 1023,
     "[" + ",".join(f"a{i}" for i in range(512)) + "]",
-    "# globals:" + "".join(f" g{i}" for i in range(512)),
+    "[" + ",".join(f"a{i}" for i in range(512)) + "]\n# globals:" + "".join(f" a{i}" for i in range(600)),
     "(" * 199 + "x" + ")" * 199,
 ]
 
@@ -145,6 +155,12 @@ def leaves(source):
     return spans[0][0], " ".join(data[begin:end].decode() for begin, end in spans)
 
 
+def globals_of(tree):
+    """The globals that a tree lists, which are its last numbers; None where they aren't given."""
+    (count,) = struct.unpack_from("<H", tree, 9)
+    return None if count == export.NONE else list(struct.unpack(f"<{count}H", tree[len(tree) - 2 * count:]))
+
+
 def script_faults():
     for source, first, texts in SPANS:
         if refusal(source) or leaves(source) != (first, texts):
@@ -152,6 +168,9 @@ def script_faults():
     for source, version in VERSIONS:
         if export.tree_file(as_bytes(source))[3:5] != bytes((version, 0)):
             yield f"export.py: of {source[:40]!r} the tree is not of version {version}"
+    for lines, numbers in GLOBALS:
+        if globals_of(export.tree_file(as_bytes(NAMED + lines))) != numbers:
+            yield f"export.py: with {lines[:40]!r} the tree doesn't list the globals {numbers}"
     foreign = [(source, f"1:{column}: {what} is no Starlark") for source, column, what in FOREIGN]
     for source, said in foreign + REFUSED + [(source, None) for source in AT_LIMITS]:
         found = refusal(source)
@@ -242,4 +261,4 @@ def faults():
 
 
 def count():
-    return len(SPANS) + len(VERSIONS) + len(FOREIGN) + len(REFUSED) + len(AT_LIMITS) + len(COMMANDS) + 7
+    return len(SPANS) + len(VERSIONS) + len(GLOBALS) + len(FOREIGN) + len(REFUSED) + len(AT_LIMITS) + len(COMMANDS) + 7

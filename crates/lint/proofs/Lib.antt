@@ -2,3 +2,4 @@
 pub mod Link
 pub mod First
 pub mod Demands
+pub mod Releases

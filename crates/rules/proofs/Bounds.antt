@@ -8,7 +8,8 @@ use lib.Dec.{leb, T, leb→le, nleb→lt}
 use lib.ListN.{length, length-append}
 use Rattle.tree.specs.Forest.{Spot}
 use Rattle.rules.specs.Order.{Sort, Cmd, skip, _⨟_, use-of, set-of, stop, branch, loop, scope}
-use Rattle.rules.specs.Names.{Abort, abort-of, unloop, same, Setting, keep, Found, nowhere, surely, perhaps}
+use Rattle.rules.specs.Record.{keep}
+use Rattle.rules.specs.Names.{Abort, abort-of, unloop, same, Setting, Found, nowhere, surely, perhaps}
 use Rattle.rules.specs.code.Marks.{put, inside, add, adds, same-setting, Level, Absent, Maybe, Definitely, Chamber, House, empty-room, settings-of, level-at, set-room, unbinds-room, stop-room, Looked, look-step, look-out, use-away, use-level, notes, back-room, join-room, branch-house, same-house, round-house, rounds-house, passed-room, sets-name, enter-house, leave-house, tour, mid, settings-in, cant-in, unbound-in, start, Every-round, Every-rounds, Every, sum, total}
 use Rattle.rules.proofs.Bools.{or-left, or-right, or-case, nor-left, nor-right, or-other, test, never}
 use Rattle.rules.proofs.Once.{once, inside-from}

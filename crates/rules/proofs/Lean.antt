@@ -7,7 +7,8 @@ use mathlib.Core.Option.{Option, none, some}
 use lib.Dec.{eqb, leb, T}
 use Rattle.tree.specs.Forest.{Spot}
 use Rattle.rules.specs.Order.{Sort, Cmd, skip, _⨟_, use-of, set-of, stop, branch, loop, scope}
-use Rattle.rules.specs.Names.{abort-of, Standing, absent, maybe, definitely, same, has-name, Setting, set-names, Scope, fresh, Warning, State, warned, warn-new, warn, warn-if, warn-all, keep, set-at, mark, cannot, unbinds, stands, Found, nowhere, surely, perhaps, Search, search-step, search-out, use-out, use-as, branch-of, join, smaller, unloop, same-state, round, rounds, unused, spared-at, spared, idle, farewell, enter, passed, leave-to, walk, undefined, names-of}
+use Rattle.rules.specs.Record.{keep}
+use Rattle.rules.specs.Names.{abort-of, Standing, absent, maybe, definitely, same, has-name, Setting, set-names, Scope, fresh, Warning, State, warned, warn-new, warn, warn-if, warn-all, set-at, mark, cannot, unbinds, stands, Found, nowhere, surely, perhaps, Search, search-step, search-out, use-out, use-as, branch-of, join, smaller, unloop, same-state, round, rounds, unused, spared-at, spared, idle, farewell, enter, passed, leave-to, walk, undefined, names-of}
 use Rattle.rules.specs.code.Marks.{inside, add, adds, same-sort, same-setting}
 use Rattle.rules.proofs.Once.{over, once, adds-append, over-adds, add-in, inside-adds, add-there}
 use Rattle.rules.proofs.Bools.{so, or-left, or-right, or-case, and-left, and-right, both}

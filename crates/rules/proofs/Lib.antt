@@ -27,11 +27,16 @@ pub mod Seven
 pub mod Peak
 pub mod Few
 pub mod Dialect
+pub mod Coded
+pub mod Lists
+pub mod Releases
 pub mod Tally
 pub mod Whole
 pub mod Words
 pub mod Answered
 pub mod Called
+pub mod ReleasesCalled
 pub mod Known
 pub mod Checked
 pub mod Examples
+pub mod ReleasesShown

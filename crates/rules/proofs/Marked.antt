@@ -8,7 +8,8 @@ use lib.Dec.{eqb, leb, T, eqb→eq, eqb-refl}
 use Rattle.tree.specs.Forest.{Spot, Forest, treeOf}
 use Rattle.tree.specs.Table.{tableOf, spells, underscored, globalsOf}
 use Rattle.rules.specs.Order.{Sort, Cmd, skip, _⨟_, use-of, set-of, stop, branch, loop, scope, body, fail-name}
-use Rattle.rules.specs.Names.{Abort, aborts, abort-of, Standing, absent, maybe, definitely, Spots, spots, sure, stand, has-standing, stand-if, join, join-sure, smaller, unloop, same, has-name, Setting, set-names, Scope, fresh, Warning, State, warn, warn-if, warn-all, keep, mark, stands, Found, nowhere, surely, perhaps, Search, search-step, search-out, use-out, use-as, branch-of, same-state, round, rounds, unused, is-assign, spared, idle, farewell, enter, passed, leave-to, walk, undefined, names-of, names, met-in, told, names-list}
+use Rattle.rules.specs.Record.{keep}
+use Rattle.rules.specs.Names.{Abort, aborts, abort-of, Standing, absent, maybe, definitely, Spots, spots, sure, stand, has-standing, stand-if, join, join-sure, smaller, unloop, same, has-name, Setting, set-names, Scope, fresh, Warning, State, warn, warn-if, warn-all, mark, stands, Found, nowhere, surely, perhaps, Search, search-step, search-out, use-out, use-as, branch-of, same-state, round, rounds, unused, is-assign, spared, idle, farewell, enter, passed, leave-to, walk, undefined, names-of, names, met-in, told, names-list}
 use Rattle.rules.proofs.Keep.{scope-same}
 use Rattle.rules.specs.code.Marks.{put, inside, add, adds, same-setting, Level, Absent, Maybe, Definitely, Entry, Chamber, House, empty-room, setting-of, settings-of, find, level-at, used-at, held-at, reset, resets, has-entry, set-entry, set-room, marks, mark-room, cannot-room, unbinds-room, stop-room, Looked, look-step, look-out, use-away, use-level, Note, notes, later-notes, restore, has-level, sure-level, level-if, join-level, merge, back-room, join-room, branch-house, same-house, round-house, rounds-house, spared-room, idle-room, sets-name, farewell-room, passed-room, enter-house, leave-house, tour, undefined-room, names-tour}
 use Rattle.rules.proofs.Bools.{nope, so, or-left, or-right, or-case}

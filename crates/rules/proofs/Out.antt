@@ -8,9 +8,9 @@ use mathlib.Core.Option.{Option, none, some}
 use lib.Dec.{leb, T}
 use lib.ListN.{length, length-append}
 use Rattle.tree.specs.Forest.{Spot, Head, Forest, Forest.none as leaf, node}
-use Rattle.rules.specs.Record.{Each}
+use Rattle.rules.specs.Record.{Each, keep}
 use Rattle.rules.specs.Order.{Sort, Cmd, skip, _⨟_, use-of, set-of, stop, branch, loop, scope, of-role, body}
-use Rattle.rules.specs.Names.{names, met, Abort, abort-of, unloop, same, Warning, warned, warn-new, warn, warn-if, warn-all, keep, unused, Found, nowhere, surely, perhaps}
+use Rattle.rules.specs.Names.{names, met, Abort, abort-of, unloop, same, Warning, warned, warn-new, warn, warn-if, warn-all, unused, Found, nowhere, surely, perhaps}
 use Rattle.rules.specs.code.Marks.{put, inside, add, adds, Level, Absent, Maybe, Definitely, Entry, Chamber, House, level-at, resets, has-entry, set-room, marks, mark-room, cannot-room, unbinds-room, stop-room, Looked, look-step, look-out, use-away, use-level, Note, notes, later-notes, restore, merge, back-room, join-room, branch-house, same-house, round-house, rounds-house, spared-room, idle-room, sets-name, farewell-room, passed-room, enter-house, leave-house, tour, undefined-room, names-tour, nodes, mid, start, Every, Every-rounds}
 use Rattle.rules.proofs.Spots.{same-sound, same-exact}
 use Rattle.rules.proofs.Bounds.{every-map, Plain, plain-add, pigeon, inside-left, inside-right}

@@ -36,7 +36,7 @@ set-here [] i v h = absurd (omega arith)
 set-here (n ∷ ns) zero v h = refl
 set-here (n ∷ ns) (suc i) v h = set-here ns i v (omega arith)
 
-set-there : (ns : List ℕ) (i k v : ℕ) → (i ≡ k → ⊥) → getD (set ns i v) k 0 ≡ getD ns k 0
+pub set-there : (ns : List ℕ) (i k v : ℕ) → (i ≡ k → ⊥) → getD (set ns i v) k 0 ≡ getD ns k 0
 set-there [] i k v h = refl
 set-there (n ∷ ns) zero zero v h = absurd (h refl)
 set-there (n ∷ ns) zero (suc k) v h = refl

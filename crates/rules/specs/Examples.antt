@@ -1,6 +1,6 @@
 -- More files with their lists, beside the starred ones (Known): every code that those don't show, the five loops that are taken twice,
--- 01's 47 bytes, both reasons of 02, §11, whole floats of every size (02, §2), both versions (02, §9), nodes that share span and name (02,
--- §4), and each limit at its number and one past it.
+-- 01's 47 bytes, both reasons of 02, §11, whole floats of every size (02, §2), both versions (02, §9), releases of a
+-- host (02, §13), nodes that share span and name (02, §4), and each limit at its number and one past it.
 -- Assumes nothing.
 use Prim.Native.Nat.{ℕ, zero, suc}
 use mathlib.Core.Bool.{Bool, true, _&&_}
@@ -17,9 +17,12 @@ use Rattle.rules.specs.Known.{Row, in-either-mode}
 abbrev pub header : ℕ → ℕ → ℕ → ℕ → List ℕ
 header v n nv g = headed v n nv g []
 
--- a file with globals given: their value numbers
+-- a file of a version with globals given: their value numbers
+abbrev pub file-given-of : ℕ → List ℕ → List (List ℕ) → List (List ℕ) → List ℕ
+file-given-of v gs ns vs = headed v (length ns) (length vs) (length gs) (joined ns ++ (joined vs ++ joined (map u16 gs)))
+
 abbrev pub file-given : List ℕ → List (List ℕ) → List (List ℕ) → List ℕ
-file-given gs ns vs = headed 1 (length ns) (length vs) (length gs) (joined ns ++ (joined vs ++ joined (map u16 gs)))
+file-given gs ns vs = file-given-of 1 gs ns vs
 
 -- ---- the files
 
@@ -520,6 +523,62 @@ loaded-later version =
     (value-of 0 (0x78 ∷ [])
     ∷ [])
 
+-- One script in either version, with the globals of several releases of its host, and with none given (02, §13).
+
+-- for night in nights:
+--     log(seeing)
+--     seeing = night
+-- log(rate)
+-- rate = drift
+-- (values: log, rate, drift, night, nights, seeing)
+abbrev pub nightly : List (List ℕ)
+nightly =
+    node-of 8 0 19 0 78 65535
+    ∷ node-of 11 0 11 0 55 65535
+    ∷ node-of 40 5 1 4 9 3
+    ∷ node-of 20 4 1 13 19 4
+    ∷ node-of 8 1 8 25 55 65535
+    ∷ node-of 5 0 4 25 36 65535
+    ∷ node-of 23 4 3 25 36 65535
+    ∷ node-of 20 7 1 25 28 0
+    ∷ node-of 20 0 1 29 35 5
+    ∷ node-of 6 0 3 41 55 65535
+    ∷ node-of 40 5 1 41 47 5
+    ∷ node-of 20 4 1 50 55 3
+    ∷ node-of 5 0 4 56 65 65535
+    ∷ node-of 23 4 3 56 65 65535
+    ∷ node-of 20 7 1 56 59 0
+    ∷ node-of 20 0 1 60 64 1
+    ∷ node-of 6 0 3 66 78 65535
+    ∷ node-of 40 5 1 66 70 1
+    ∷ node-of 20 4 1 73 78 2
+    ∷ []
+
+abbrev pub nightly-values : List (List ℕ)
+nightly-values =
+    value-of 0 (0x6c ∷ 0x6f ∷ 0x67 ∷ [])
+    ∷ value-of 0 (0x72 ∷ 0x61 ∷ 0x74 ∷ 0x65 ∷ [])
+    ∷ value-of 0 (0x64 ∷ 0x72 ∷ 0x69 ∷ 0x66 ∷ 0x74 ∷ [])
+    ∷ value-of 0 (0x6e ∷ 0x69 ∷ 0x67 ∷ 0x68 ∷ 0x74 ∷ [])
+    ∷ value-of 0 (0x6e ∷ 0x69 ∷ 0x67 ∷ 0x68 ∷ 0x74 ∷ 0x73 ∷ [])
+    ∷ value-of 0 (0x73 ∷ 0x65 ∷ 0x65 ∷ 0x69 ∷ 0x6e ∷ 0x67 ∷ [])
+    ∷ []
+
+abbrev pub not-released : ℕ → List ℕ
+not-released version = file-of version nightly nightly-values
+
+-- no globals at all
+abbrev pub release-0 : ℕ → List ℕ
+release-0 version = file-given-of version [] nightly nightly-values
+
+-- of examples/scripts, before a last line "# globals: log nights"
+abbrev pub release-1 : ℕ → List ℕ
+release-1 version = file-given-of version (0 ∷ 4 ∷ []) nightly nightly-values
+
+-- .. "# globals: drift log nights rate seeing"
+abbrev pub release-2 : ℕ → List ℕ
+release-2 version = file-given-of version (0 ∷ 1 ∷ 2 ∷ 4 ∷ 5 ∷ []) nightly nightly-values
+
 -- Three files in which nodes share span and name, and the walk's order is not the file's.
 
 -- x = x: the target (node 1) and the value (node 2), which is met first, share their span
@@ -572,6 +631,33 @@ result-last =
 
 -- ---- the lists
 
+-- 02, §13: a release quiets the 5s of the names that it adds, and neither 6 nor 4, though the second knows their names too; where no globals
+-- are given there is no 5
+abbrev pub nightly-rows : ℕ → List Row
+nightly-rows version =
+    in-either-mode (not-released version)
+    (6 ∷ 29 ∷ 35 ∷ 5 ∷ 0 ∷ 0 ∷ 0 ∷ 0 ∷ 8 ∷ 65535
+    ∷ 4 ∷ 60 ∷ 64 ∷ 1 ∷ 0 ∷ 0 ∷ 0 ∷ 0 ∷ 15 ∷ 65535
+    ∷ [])
+    ∷ in-either-mode (release-0 version)
+    (6 ∷ 29 ∷ 35 ∷ 5 ∷ 0 ∷ 0 ∷ 0 ∷ 0 ∷ 8 ∷ 65535
+    ∷ 4 ∷ 60 ∷ 64 ∷ 1 ∷ 0 ∷ 0 ∷ 0 ∷ 0 ∷ 15 ∷ 65535
+    ∷ 5 ∷ 13 ∷ 19 ∷ 4 ∷ 0 ∷ 0 ∷ 0 ∷ 0 ∷ 3 ∷ 65535
+    ∷ 5 ∷ 25 ∷ 28 ∷ 0 ∷ 0 ∷ 0 ∷ 0 ∷ 0 ∷ 7 ∷ 65535
+    ∷ 5 ∷ 56 ∷ 59 ∷ 0 ∷ 0 ∷ 0 ∷ 0 ∷ 0 ∷ 14 ∷ 65535
+    ∷ 5 ∷ 73 ∷ 78 ∷ 2 ∷ 0 ∷ 0 ∷ 0 ∷ 0 ∷ 18 ∷ 65535
+    ∷ [])
+    ∷ in-either-mode (release-1 version)
+    (6 ∷ 29 ∷ 35 ∷ 5 ∷ 0 ∷ 0 ∷ 0 ∷ 0 ∷ 8 ∷ 65535
+    ∷ 4 ∷ 60 ∷ 64 ∷ 1 ∷ 0 ∷ 0 ∷ 0 ∷ 0 ∷ 15 ∷ 65535
+    ∷ 5 ∷ 73 ∷ 78 ∷ 2 ∷ 0 ∷ 0 ∷ 0 ∷ 0 ∷ 18 ∷ 65535
+    ∷ [])
+    ∷ in-either-mode (release-2 version)
+    (6 ∷ 29 ∷ 35 ∷ 5 ∷ 0 ∷ 0 ∷ 0 ∷ 0 ∷ 8 ∷ 65535
+    ∷ 4 ∷ 60 ∷ 64 ∷ 1 ∷ 0 ∷ 0 ∷ 0 ∷ 0 ∷ 15 ∷ 65535
+    ∷ [])
+    ∷ []
+
 -- "13 0 1 65535 0 0 0 0", and 02, §4: "01's example line ends in the literal's node 1 and 65535"; codes 1, 3, 4, 5, 7, 10, 11, 12, 14 and
 -- 17, one each; 02, §11: the same form (1), the same number in two forms (2), and then 1 again, since it is the previous equal key that
 -- the later one is held against; 02, §2: strict, a whole float equals its integer at every size, an infinity only itself;
@@ -579,7 +665,8 @@ result-last =
 -- fifth, and its second round finds a set in the first (6); it is the sixth, and its one round finds no a (4);
 -- 02, §9: "x = x, where x was first defined by a load, is then free each time": of a name that an assign defined first it isn't, in either
 -- version; of a loaded name that is set in between it is; and where a load comes after x = x neither the load nor what follows is free;
--- 02, §4: "the one that the names walk meets first", where the file's first is node 1, 2 and 3
+-- 02, §4: "the one that the names walk meets first", where the file's first is node 1, 2 and 3; 02, §13, in both
+-- versions
 abbrev pub examples : List Row
 examples =
     in-either-mode (file one-literal value-one) (13 ∷ 0 ∷ 1 ∷ 65535 ∷ 0 ∷ 0 ∷ 0 ∷ 0 ∷ 1 ∷ 65535 ∷ [])
@@ -647,7 +734,7 @@ examples =
     ∷ in-either-mode value-first (4 ∷ 0 ∷ 1 ∷ 0 ∷ 0 ∷ 0 ∷ 0 ∷ 0 ∷ 2 ∷ 65535 ∷ [])
     ∷ in-either-mode default-first (3 ∷ 6 ∷ 7 ∷ 1 ∷ 0 ∷ 0 ∷ 0 ∷ 0 ∷ 3 ∷ 65535 ∷ [])
     ∷ in-either-mode result-last (3 ∷ 8 ∷ 9 ∷ 0 ∷ 0 ∷ 0 ∷ 0 ∷ 0 ∷ 6 ∷ 65535 ∷ [])
-    ∷ []
+    ∷ (nightly-rows 1 ++ nightly-rows 2)
 
 -- ---- the limits
 

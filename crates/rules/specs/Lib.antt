@@ -12,6 +12,7 @@ pub mod Joined
 pub mod Outcome
 pub mod Calls
 pub mod Afterwards
+pub mod Releases
 pub mod Runs
 pub mod Premises
 pub mod Letter

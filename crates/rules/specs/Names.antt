@@ -7,7 +7,7 @@ use mathlib.Core.Option.{Option, none, some}
 use lib.Dec.{eqb, leb}
 use Rattle.tree.specs.Forest.{Spot, Head, Forest, treeOf}
 use Rattle.tree.specs.Table.{tableOf, spells, underscored, globalsOf}
-use Rattle.rules.specs.Record.{Rec, no-span, no-number}
+use Rattle.rules.specs.Record.{Rec, no-span, no-number, keep}
 use Rattle.rules.specs.Order.{Stop, Sort, Cmd, breaks, bare, valued, fails, skip, _⨟_, use-of, set-of, stop, branch, loop, scope, body, fail-name}
 
 -- "an abort: none, loop or function, ordered so"
@@ -103,10 +103,6 @@ warn-if false c s ws = ws
 abbrev pub warn-all : ℕ → (Spot → Bool) → List Spot → List Warning → List Warning
 warn-all c p [] ws = ws
 warn-all c p (s ∷ ss) ws = warn-all c p ss (warn-if (p s) c s ws)
-
-abbrev pub keep : (Spot → Bool) → List Spot → List Spot
-keep p [] = []
-keep p (s ∷ ss) = elim (p s) [ true ↦ s ∷ keep p ss | false ↦ keep p ss ]
 
 abbrev pub scope-of : List Spot → List Spot → Spots → List Setting → (ℕ → Standing) → Abort → Scope
 scope-of c u d e f a = record { cant = c; unbound = u; used = d; settings = e; standing = f; abort = a }

@@ -9,9 +9,11 @@ use lib.ListN.{length, getD}
 use Rattle.tree.specs.Bytes.{pick, valueAt, globalCount}
 use Rattle.tree.specs.Forest.{Spot, spotAt}
 use Rattle.tree.specs.Table.{tableOf, underscored, is-global, unless, globalsOf}
-use Rattle.rules.specs.Names.{keep, Warning, warn, warn-if, warn-all}
+use Rattle.rules.specs.Record.{keep}
+use Rattle.rules.specs.Names.{Warning, warn, warn-if, warn-all}
 use Rattle.rules.specs.code.Marks as marks
 use Rattle.rules.specs.code.Marks.{sets-name, farewell-room, undefined-room}
+use Rattle.rules.proofs.Lists.{keep-so, keep-not}
 use Rattle.scope.specs.Lists.{places}
 use Rattle.scope.specs.State.{nodeIn, spotIn, entryIn, roomOf, outOf, Fits}
 use Rattle.scope.specs.Words.{isIn, warnLines, unknownLines, usesLines, unknownOf, farewellOf, closedOf}
@@ -19,7 +21,6 @@ use Rattle.scope.specs.declared.table.Like.the-variants.{Name}
 use Rattle.scope.specs.declared.Scope.{Scope}
 use Rattle.scope.proofs.Lists.{places-none, places-cons}
 use Rattle.scope.proofs.Leaves.{Only, Warns, warns-so, warns-not, only-entries, sets-in, farewell-warns}
-use Rattle.scope.proofs.Passing.{keep-so, keep-not}
 
 module _ (t w : List ℕ) (s : Scope) (f : Fits w s) where
   abbrev here : List marks.Entry

@@ -8,9 +8,11 @@ use lib.ListN.{length, getD, length-append}
 use Rattle.tree.specs.Bytes.{pick, valueAt}
 use Rattle.tree.specs.Forest.{Spot, spotAt}
 use Rattle.tree.specs.Table.{tableOf, underscored}
-use Rattle.rules.specs.Names.{same, keep}
+use Rattle.rules.specs.Record.{keep}
+use Rattle.rules.specs.Names.{same}
 use Rattle.rules.specs.code.Marks as marks
 use Rattle.rules.specs.code.Marks.{put, inside, add, adds, sets-name, leave-house, farewell-room, passed-room, unbinds-room}
+use Rattle.rules.proofs.Lists.{keep-so, keep-not}
 use Rattle.scope.specs.Lists.{places}
 use Rattle.scope.specs.State.{nodeIn, baseIn, spotIn, entryIn, roomOf, roomsOf, outOf, houseOf, Fits, Inside, Kept}
 use Rattle.scope.specs.Words.{Lines, isIn, joinWords, joinEnd, passLines, passesIn, passedOf, farewellOf, leaveWords, leaveScope}
@@ -21,12 +23,6 @@ use Rattle.scope.proofs.Lists.{places-none, places-cons, places-length}
 use Rattle.scope.proofs.Cells.{same-spots, same-entries, same-warnings, joined-list, join-else, join-length, join-end, join-next}
 use Rattle.scope.proofs.Frames.{rooms-same}
 use Rattle.scope.proofs.Leaves.{Warns, sets-in, farewell-warns}
-
-pub keep-so : (p : Spot → Bool) (x : Spot) (ss : List Spot) → p x ≡ true → keep p (x ∷ ss) ≡ x ∷ keep p ss
-keep-so p x ss e = rw (keep, e)
-
-pub keep-not : (p : Spot → Bool) (x : Spot) (ss : List Spot) → p x ≡ false → keep p (x ∷ ss) ≡ keep p ss
-keep-not p x ss e = rw (keep, e)
 
 adds-grows : (ys l : List Spot) → length l ≤ length (adds same ys l)
 adds-grows [] l = omega arith

@@ -12,7 +12,7 @@ use Rattle.rules.specs.Visit.{head-at, each, kind-at}
 use Rattle.rules.specs.Dubious.{keys, seen-with, reason-span, clash, against, doubles, dict-at, idle-at, dubious}
 use Rattle.rules.proofs.Bools.{and-right}
 use Rattle.rules.proofs.Each.{join, listed-each, listed-if}
-use Rattle.spans.proofs.Made.{Throughout, Made, one, double, kind-has, place, each-made}
+use Rattle.spans.proofs.Made.{Throughout, Late, one, double, kind-has, place, each-late}
 
 module _ (P : Head → Type 0) where
   keys-held : (f : Forest) → Throughout P f → Each P (keys f)
@@ -20,32 +20,32 @@ module _ (P : Head → Type 0) where
   keys-held (node h k s) o =
       listed-each P (eqb 8 (h .role) && (eqb 20 (h .kind) || eqb 21 (h .kind))) (h ∷ []) (keys s) (o .0 .0, tt) (keys-held s (o .1 .1))
 
-  clash-made : (l : Likeness) (old h : Head) (on : List Rec) → P old → P h → Each (Made P) on → Each (Made P) (clash l old h on)
-  clash-made Different old h on a b p = p
-  clash-made SameForm old h on a b p = (double old (h .spot .value) h (reason-span SameForm) a b (omega arith), tt)
-  clash-made SameNumber old h on a b p = (double old (h .spot .value) h (reason-span SameNumber) a b (omega arith), tt)
+  clash-late : (l : Likeness) (old h : Head) (on : List Rec) → P old → P h → Each (Late P) on → Each (Late P) (clash l old h on)
+  clash-late Different old h on a b p = p
+  clash-late SameForm old h on a b p = (double old (h .spot .value) h (reason-span SameForm) a b (omega arith), tt)
+  clash-late SameNumber old h on a b p = (double old (h .spot .value) h (reason-span SameNumber) a b (omega arith), tt)
 
   module _ (test : ℕ → ℕ → Likeness) where
-    against-made : (h : Head) (seen : List Head) → P h → Each P seen → Each (Made P) (against test h seen)
-    against-made h [] a p = tt
-    against-made h (old ∷ seen) a p =
-        clash-made (test (old .spot .value) (h .spot .value)) old h (against test h seen) (p .0) a (against-made h seen a (p .1))
+    against-late : (h : Head) (seen : List Head) → P h → Each P seen → Each (Late P) (against test h seen)
+    against-late h [] a p = tt
+    against-late h (old ∷ seen) a p =
+        clash-late (test (old .spot .value) (h .spot .value)) old h (against test h seen) (p .0) a (against-late h seen a (p .1))
 
-    doubles-made : (seen hs : List Head) → Each P seen → Each P hs → Each (Made P) (doubles test seen hs)
-    doubles-made seen [] p q = tt
-    doubles-made seen (h ∷ hs) p q =
-        join (Made P) (against test h seen) (doubles test (seen-with h seen) hs) (against-made h seen (q .0) p)
-        (doubles-made (seen-with h seen) hs (q .0, p) (q .1))
+    doubles-late : (seen hs : List Head) → Each P seen → Each P hs → Each (Late P) (doubles test seen hs)
+    doubles-late seen [] p q = tt
+    doubles-late seen (h ∷ hs) p q =
+        join (Late P) (against test h seen) (doubles test (seen-with h seen) hs) (against-late h seen (q .0) p)
+        (doubles-late (seen-with h seen) hs (q .0, p) (q .1))
 
     -- DUBIOUS
-    pub dubious-made : (f : Forest) → Throughout P f → Each (Made P) (dubious test f)
-    dubious-made f o =
-        join (Made P) (each (dict-at test) f) (each idle-at f)
-        (each-made P (dict-at test)
-        (λ h k a b. listed-each (Made P) (eqb 29 (h .kind)) (doubles test [] (keys k)) [] (doubles-made [] (keys k) tt (keys-held k b)) tt)
+    pub dubious-late : (f : Forest) → Throughout P f → Each (Late P) (dubious test f)
+    dubious-late f o =
+        join (Late P) (each (dict-at test) f) (each idle-at f)
+        (each-late P (dict-at test)
+        (λ h k a b. listed-each (Late P) (eqb 29 (h .kind)) (doubles test [] (keys k)) [] (doubles-late [] (keys k) tt (keys-held k b)) tt)
         f o)
-        (each-made P idle-at
-        (λ h k a b. listed-if (Made P) (eqb 5 (h .kind) && eqb 20 (kind-at 4 k)) (named-at 17 (head-at 4 k) ∷ []) []
+        (each-late P idle-at
+        (λ h k a b. listed-if (Late P) (eqb 5 (h .kind) && eqb 20 (kind-at 4 k)) (named-at 17 (head-at 4 k) ∷ []) []
         (λ t. (
           one 17 (head-at 4 k) (head-at 4 k .spot .value) tt
               (place P k b 4 (kind-has k 4 19 (and-right (eqb 5 (h .kind)) (eqb 20 (kind-at 4 k)) t))),

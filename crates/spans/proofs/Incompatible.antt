@@ -12,7 +12,7 @@ use Rattle.rules.specs.declared.Allowance.{Allowance}
 use Rattle.rules.specs.Incompatible.{identifier, check-at, type-check, Deed, defines, repeats, deed-part, defined-names, self-set, Top, assigning, modifying, defining, loading, holding, aside, tops, top-part, deeds, First, first-of, was-free, defined, may-repeat, repeated, incompatible}
 use Rattle.rules.proofs.Bools.{and-left}
 use Rattle.rules.proofs.Each.{If-some, either, join, listed-each}
-use Rattle.spans.proofs.Made.{Throughout, Made, one, two, kind-has, place, each-made}
+use Rattle.spans.proofs.Made.{Throughout, Late, one, two, kind-has, place, each-late}
 
 module _ (P : Head → Type 0) where
   -- ---- 15
@@ -59,30 +59,30 @@ module _ (P : Head → Type 0) where
   first-begun x [] p = tt
   first-begun x (d ∷ ds) p = either (If-some Begun) (eqb x (d .head .spot .value)) (some d) (first-of x ds) (p .0) (first-begun x ds (p .1))
 
-  defined-made : (o : Option First) (l : Bool) (h : Head) (ds : List First) (on : List First → List Rec) → If-some Begun o → P h
-      → Each Begun ds → ((v : List First) → Each Begun v → Each (Made P) (on v)) → Each (Made P) (defined o l h ds on)
-  defined-made none l h ds on a b p c = c (record { head = h; loaded = l } ∷ ds) (b, p)
-  defined-made (some d) l h ds on a b p c = (two 15 h (h .spot .value) (d .head) tt b a, c ds p)
+  defined-late : (o : Option First) (l : Bool) (h : Head) (ds : List First) (on : List First → List Rec) → If-some Begun o → P h
+      → Each Begun ds → ((v : List First) → Each Begun v → Each (Late P) (on v)) → Each (Late P) (defined o l h ds on)
+  defined-late none l h ds on a b p c = c (record { head = h; loaded = l } ∷ ds) (b, p)
+  defined-late (some d) l h ds on a b p c = (two 15 h (h .spot .value) (d .head) tt b a, c ds p)
 
   module _ (allowed : Allowance) where
-    judge-made : (es : List Deed) (ds : List First) (xs : List ℕ) → Each Done es → Each Begun ds → Each (Made P) (repeated allowed es ds xs)
-    judge-made [] ds xs p q = tt
-    judge-made (defines l h ∷ es) ds xs p q =
-        defined-made (first-of (h .spot .value) ds) l h ds (λ v. repeated allowed es v xs) (first-begun (h .spot .value) ds q) (p .0) q
-        (λ v b. judge-made es v xs (p .1) b)
-    judge-made (repeats h ∷ es) ds xs p q =
-        either (Each (Made P)) (may-repeat allowed (first-of (h .spot .value) ds) (was-free (h .spot .value) xs))
+    judge-late : (es : List Deed) (ds : List First) (xs : List ℕ) → Each Done es → Each Begun ds → Each (Late P) (repeated allowed es ds xs)
+    judge-late [] ds xs p q = tt
+    judge-late (defines l h ∷ es) ds xs p q =
+        defined-late (first-of (h .spot .value) ds) l h ds (λ v. repeated allowed es v xs) (first-begun (h .spot .value) ds q) (p .0) q
+        (λ v b. judge-late es v xs (p .1) b)
+    judge-late (repeats h ∷ es) ds xs p q =
+        either (Each (Late P)) (may-repeat allowed (first-of (h .spot .value) ds) (was-free (h .spot .value) xs))
         (repeated allowed es ds (h .spot .value ∷ xs)) (defined (first-of (h .spot .value) ds) false h ds (λ v. repeated allowed es v xs))
-        (judge-made es ds (h .spot .value ∷ xs) (p .1) q)
-        (defined-made (first-of (h .spot .value) ds) false h ds (λ v. repeated allowed es v xs) (first-begun (h .spot .value) ds q) (p .0) q
-        (λ v b. judge-made es v xs (p .1) b))
+        (judge-late es ds (h .spot .value ∷ xs) (p .1) q)
+        (defined-late (first-of (h .spot .value) ds) false h ds (λ v. repeated allowed es v xs) (first-begun (h .spot .value) ds q) (p .0) q
+        (λ v b. judge-late es v xs (p .1) b))
 
   -- INCOMPATIBLE
-  pub incompatible-made : (allowed : Allowance) (is-type names-type : ℕ → Bool) (f : Forest) → Throughout P f
-      → Each (Made P) (incompatible allowed is-type names-type f)
-  incompatible-made allowed is-type names-type f o =
-      join (Made P) (each (check-at is-type names-type) f) (repeated allowed (deeds f) [] [])
-      (each-made P (check-at is-type names-type)
-      (λ h k a b. listed-each (Made P) ((eqb 31 (h .kind) || eqb 32 (h .kind)) && type-check is-type names-type k)
+  pub incompatible-late : (allowed : Allowance) (is-type names-type : ℕ → Bool) (f : Forest) → Throughout P f
+      → Each (Late P) (incompatible allowed is-type names-type f)
+  incompatible-late allowed is-type names-type f o =
+      join (Late P) (each (check-at is-type names-type) f) (repeated allowed (deeds f) [] [])
+      (each-late P (check-at is-type names-type)
+      (λ h k a b. listed-each (Late P) ((eqb 31 (h .kind) || eqb 32 (h .kind)) && type-check is-type names-type k)
       (valued-at 14 h (spot-at 2 k .value) ∷ []) [] (one 14 h (spot-at 2 k .value) tt a, tt) tt) f o)
-      (judge-made allowed (deeds f) [] [] (deeds-done f o) tt)
+      (judge-late allowed (deeds f) [] [] (deeds-done f o) tt)

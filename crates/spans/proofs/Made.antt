@@ -23,13 +23,18 @@ early c = leb 1 c && leb c 6
 abbrev pub later : ℕ → Bool
 later c = leb 7 c && (leb c codes && not (eqb 16 c))
 
--- a record whose spans and numbers are those of nodes of which P holds: of one node, of two, of two and a third span; 16
+-- a record of flow, incompatible or dubious whose spans and numbers are those of nodes of which P holds: of one node, of two, of two and a
+-- third span; 16
+pub data Late (P : Head → Type 0) : Rec → Type 0 where
+  one : (c : ℕ) (h : Head) (v : ℕ) → T (later c) → P h → Late P (valued-at c h v)
+  two : (c : ℕ) (h : Head) (v : ℕ) (g : Head) → T (later c) → P h → P g → Late P (also-at c h v g no-span)
+  three : (c : ℕ) (h : Head) (v : ℕ) (g w : Head) → T (later c) → P h → P g → P w → Late P (also-at c h v g (span-of (w .spot)))
+  double : (h : Head) (v : ℕ) (g : Head) (s : Span) → P h → P g → Reason s → Late P (also-at 16 h v g s)
+
+-- .. or of names: of one node, with its name
 pub data Made (P : Head → Type 0) : Rec → Type 0 where
   name : (c : ℕ) (h : Head) → T (early c) → P h → Made P (named-at c h)
-  one : (c : ℕ) (h : Head) (v : ℕ) → T (later c) → P h → Made P (valued-at c h v)
-  two : (c : ℕ) (h : Head) (v : ℕ) (g : Head) → T (later c) → P h → P g → Made P (also-at c h v g no-span)
-  three : (c : ℕ) (h : Head) (v : ℕ) (g w : Head) → T (later c) → P h → P g → P w → Made P (also-at c h v g (span-of (w .spot)))
-  double : (h : Head) (v : ℕ) (g : Head) (s : Span) → P h → P g → Reason s → Made P (also-at 16 h v g s)
+  late : (r : Rec) → Late P r → Made P r
 
 -- a node that has a kind is there
 pub kind-has : (k : Forest) (r n : ℕ) → T (eqb (suc n) (kind-at r k)) → T (has r k)
@@ -51,10 +56,10 @@ module _ (P : Head → Type 0) where
       go false u f = f u
 
   -- what holds of a node's own records holds of those of each node
-  pub each-made : (g : Head → Forest → List Rec)
-      → ((h : Head) (k : Forest) → P h → Throughout P k → Each (Made P) (g h k))
-      → (f : Forest) → Throughout P f → Each (Made P) (each g f)
-  each-made g c leaf o = tt
-  each-made g c (node h k s) o =
-      join (Made P) (g h k) (each g k ++ each g s) (c h k (o .0 .0) (o .1 .0))
-      (join (Made P) (each g k) (each g s) (each-made g c k (o .1 .0)) (each-made g c s (o .1 .1)))
+  pub each-late : (g : Head → Forest → List Rec)
+      → ((h : Head) (k : Forest) → P h → Throughout P k → Each (Late P) (g h k))
+      → (f : Forest) → Throughout P f → Each (Late P) (each g f)
+  each-late g c leaf o = tt
+  each-late g c (node h k s) o =
+      join (Late P) (g h k) (each g k ++ each g s) (c h k (o .0 .0) (o .1 .0))
+      (join (Late P) (each g k) (each g s) (each-late g c k (o .1 .0)) (each-late g c s (o .1 .1)))

@@ -27,34 +27,39 @@ use Rattle.rules.proofs.Bools.{so, nope, and-left, and-right}
 use Rattle.spans.specs.Fit.{Third, Fit}
 use Rattle.spans.specs.Placed.{Lies, Placed}
 use Rattle.rules.proofs.Each.{join, each-more}
-use Rattle.spans.proofs.Made.{Throughout, early, later, Made, name, one, two, three, double}
+use Rattle.spans.proofs.Made.{Throughout, early, later, Late, one, two, three, double, Made, name, late}
 use Rattle.spans.proofs.Tree.{Straight, Sits, tree-straight, tree-sits}
 use Rattle.spans.proofs.Names.{names-made}
-use Rattle.spans.proofs.Flow.{flow-made}
-use Rattle.spans.proofs.Incompatible.{incompatible-made}
-use Rattle.spans.proofs.Dubious.{dubious-made}
+use Rattle.spans.proofs.Flow.{flow-late}
+use Rattle.spans.proofs.Incompatible.{incompatible-late}
+use Rattle.spans.proofs.Dubious.{dubious-late}
 
 -- ---- what holds throughout the tree holds of the nodes that the records are made of
 
 module _ (P : Head → Type 0) (t : List ℕ) (o : Throughout P (treeOf t)) where
-  flow-list-made : Each (Made P) (flow-list t)
+  flow-list-late : Each (Late P) (flow-list t)
   unfolding flow-list
-  flow-list-made = flow-made P (spells (tableOf t) fail-name) (spells (tableOf t) none-name) (a-string (tableOf t)) (treeOf t) o
+  flow-list-late = flow-late P (spells (tableOf t) fail-name) (spells (tableOf t) none-name) (a-string (tableOf t)) (treeOf t) o
 
-  incompatible-list-made : Each (Made P) (incompatible-list t)
+  incompatible-list-late : Each (Late P) (incompatible-list t)
   unfolding incompatible-list
-  incompatible-list-made = incompatible-made P (allowance (versionOf t)) (spells (tableOf t) type-name) (spells-one (tableOf t) five-types) (treeOf t) o
+  incompatible-list-late = incompatible-late P (allowance (versionOf t)) (spells (tableOf t) type-name) (spells-one (tableOf t) five-types) (treeOf t) o
 
-  dubious-list-made : (mode : Mode) → Each (Made P) (dubious-list mode t)
+  dubious-list-late : (mode : Mode) → Each (Late P) (dubious-list mode t)
   unfolding dubious-list
-  dubious-list-made mode = dubious-made P (λ a b. like mode (at (tableOf t) a) (at (tableOf t) b)) (treeOf t) o
+  dubious-list-late mode = dubious-late P (λ a b. like mode (at (tableOf t) a) (at (tableOf t) b)) (treeOf t) o
+
+  -- what comes after names
+  rest-late : (mode : Mode) → Each (Late P) (flow-list t ++ (incompatible-list t ++ dubious-list mode t))
+  rest-late mode =
+      join (Late P) (flow-list t) (incompatible-list t ++ dubious-list mode t) flow-list-late
+      (join (Late P) (incompatible-list t) (dubious-list mode t) incompatible-list-late (dubious-list-late mode))
 
   file-made : (mode : Mode) → Each (Made P) (lint-list mode t)
   unfolding lint-list
   file-made mode =
-      join (Made P) (names-list t) (flow-list t ++ (incompatible-list t ++ dubious-list mode t)) (names-made P t o)
-      (join (Made P) (flow-list t) (incompatible-list t ++ dubious-list mode t) flow-list-made
-      (join (Made P) (incompatible-list t) (dubious-list mode t) incompatible-list-made (dubious-list-made mode)))
+      let rest = flow-list t ++ (incompatible-list t ++ dubious-list mode t) in
+      join (Made P) (names-list t) rest (names-made P t o) (each-more (Late P) (Made P) late rest (rest-late mode))
 
 -- ---- such a record makes sense where no node ends before it begins
 
@@ -98,12 +103,22 @@ fit-of r k a b c = record {
   third = subst (λ (b : Bool). Third b (r .third)) (sym (k .other)) c;
 }
 
+fit-late : (r : Rec) → Late Straight r → Fit r
+fit-late r (one c h v k p) = fit-of r (later-code c k) p (omega arith) (omega arith)
+fit-late r (two c h v g k p q) = fit-of r (later-code c k) p q (omega arith)
+fit-late r (three c h v g w k p q u) = fit-of r (later-code c k) p q u
+fit-late r (double h v g s p q u) = record { some-code = omega arith; a-code = omega arith; first = p; second = q; third = u }
+
 fit-made : (r : Rec) → Made Straight r → Fit r
 fit-made r (name c h k p) = fit-of r (early-code c k) p (omega arith) (omega arith)
-fit-made r (one c h v k p) = fit-of r (later-code c k) p (omega arith) (omega arith)
-fit-made r (two c h v g k p q) = fit-of r (later-code c k) p q (omega arith)
-fit-made r (three c h v g w k p q u) = fit-of r (later-code c k) p q u
-fit-made r (double h v g s p q u) = record { some-code = omega arith; a-code = omega arith; first = p; second = q; third = u }
+fit-made r (late q l) = fit-late q l
+
+-- a code of flow, incompatible and dubious is none of names'
+late-code : (r : Rec) → Late Straight r → 7 ≤ r .code
+late-code r (one c h v k p) = later-low c k
+late-code r (two c h v g k p q) = later-low c k
+late-code r (three c h v g w k p q u) = later-low c k
+late-code r (double h v g s p q u) = omega arith
 
 -- ---- .. and its numbers lead to the nodes that it is made of
 
@@ -114,12 +129,15 @@ module _ (t : List ℕ) where
   not-early : (c : ℕ) {A : Type 0} → 7 ≤ c → c ≤ 6 → A
   not-early c a b = absurd (let z : ⊥ = omega arith in z)
 
+  placed-late : (r : Rec) → Late (Sits t) r → Placed t r
+  placed-late r (one c h v k p) = record { first = lies h p; second = inl (refl, refl); named = not-early c (later-low c k) }
+  placed-late r (two c h v g k p q) = record { first = lies h p; second = inr (lies g q); named = not-early c (later-low c k) }
+  placed-late r (three c h v g w k p q u) = record { first = lies h p; second = inr (lies g q); named = not-early c (later-low c k) }
+  placed-late r (double h v g s p q u) = record { first = lies h p; second = inr (lies g q); named = not-early 16 (omega arith) }
+
   placed-made : (r : Rec) → Made (Sits t) r → Placed t r
   placed-made r (name c h k p) = record { first = lies h p; second = inl (refl, refl); named = λ l. p .there }
-  placed-made r (one c h v k p) = record { first = lies h p; second = inl (refl, refl); named = not-early c (later-low c k) }
-  placed-made r (two c h v g k p q) = record { first = lies h p; second = inr (lies g q); named = not-early c (later-low c k) }
-  placed-made r (three c h v g w k p q u) = record { first = lies h p; second = inr (lies g q); named = not-early c (later-low c k) }
-  placed-made r (double h v g s p q u) = record { first = lies h p; second = inr (lies g q); named = not-early 16 (omega arith) }
+  placed-made r (late q l) = placed-late q l
 
 -- ---- the joined list of a valid file
 
@@ -132,3 +150,10 @@ file-fit t f v mode =
 pub file-placed : (t : List ℕ) (f : Facts) → judged t ≡ Valid f → (mode : Mode) → Each (Placed t) (lint-list mode t)
 file-placed t f v mode =
     each-more (Made (Sits t)) (Placed t) (placed-made t) (lint-list mode t) (file-made (Sits t) t (tree-sits t f (sound t f v)) mode)
+
+-- AFTER NAMES no record has a code of names.
+pub file-late : (t : List ℕ) (f : Facts) → judged t ≡ Valid f → (mode : Mode)
+    → Each (λ r. 7 ≤ r .code) (flow-list t ++ (incompatible-list t ++ dubious-list mode t))
+file-late t f v mode =
+    each-more (Late Straight) (λ r. 7 ≤ r .code) late-code (flow-list t ++ (incompatible-list t ++ dubious-list mode t))
+    (rest-late Straight t (tree-straight t f (sound t f v)) mode)

@@ -19,7 +19,7 @@ use Rattle.tree.proofs.Search.{clash, lowest-clear, lowest-le, not-so}
 use Rattle.tree.proofs.Names.{or-left, or-right, name-test, literal-low}
 use Rattle.tree.proofs.Shape.{left, right}
 
-offset-from : (t : List ℕ) (n i : ℕ) → nodeAt n ≤ offset t n i
+pub offset-from : (t : List ℕ) (n i : ℕ) → nodeAt n ≤ offset t n i
 unfolding offset
 offset-from t n zero = omega arith
 offset-from t n (suc i) = omega (arith, offset-from t n i)

@@ -39,4 +39,6 @@ pub mod Roles
 pub mod Entries
 pub mod Samples
 pub mod Longest
+pub mod Agree
 pub mod Versions
+pub mod Releases

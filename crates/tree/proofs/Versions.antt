@@ -6,10 +6,11 @@ use mathlib.Core.Path.{_≡_, refl, ap, ap₂, fun-ext, _∙_}
 use mathlib.Core.List.{List, [], _∷_}
 use mathlib.Core.Bool.{Bool, true, false}
 use lib.Dec.{eqb, ltb}
-use Rattle.tree.specs.Bytes.{pick, bytesFrom, u16At, u32At, versionOf, nodeCount, valueCount, globalCount, nodeAt, kindAt, roleAt, sizeAt, beginAt, endAt, valueAt, lastAt}
-use Rattle.tree.specs.Forest.{Forest, Forest.none as leaf, node, spotAt, headAt, forestIn, forestOf, treeOf}
-use Rattle.tree.specs.Values.{Value, valueFrom, after, offset}
-use Rattle.tree.specs.Table.{valuesFrom, tableOf, listed, globalsFrom, global, wrong-global, listed-from, is-global, unless, globalsOf}
+use lib.ListN.{getD}
+use Rattle.tree.specs.Bytes.{pick, u16At, versionOf, nodeCount, valueCount, globalCount, nodeAt, kindAt, roleAt, sizeAt, beginAt, endAt, valueAt, lastAt}
+use Rattle.tree.specs.Forest.{forestOf, treeOf}
+use Rattle.tree.specs.Values.{offset}
+use Rattle.tree.specs.Table.{tableOf, listed, globalsFrom, global, wrong-global, listed-from, is-global, unless, globalsOf}
 use Rattle.tree.specs.Nodes.{parentIn, parentOf, limitOf, wrong-node, depthIn, depthOf, too-deep}
 use Rattle.tree.specs.Children.{rootOk, wrong-children}
 use Rattle.tree.specs.Judge.{marked, versioned, Check, checks, checked, factsOf, judged}
@@ -17,17 +18,22 @@ use Rattle.tree.specs.Search.{lowest}
 use Rattle.tree.specs.Versions.{Twins, in-version}
 use Rattle.tree.specs.declared.Judged.{Judged}
 use Rattle.tree.specs.declared.Judged.the-variants.{Valid, Refused}
+use Rattle.tree.proofs.Agree as Agree
 
 module _ (t u : List ℕ) (s : Twins t u) where
-  -- ---- numbers behind the version
+  -- ---- all bytes behind the version are the same
+
+  abbrev Upto : ℕ → Type 0
+  Upto k = Unit {0}
+
+  down : (j k : ℕ) → j ≤ k → Upto k → Upto j
+  down j k h b = tt
+
+  same : (k : ℕ) → 5 ≤ k → Upto (k + 1) → getD t k 0 ≡ getD u k 0
+  same k h b = s .rest k h
 
   two : (k : ℕ) → 5 ≤ k → u16At t k ≡ u16At u k
-  unfolding u16At
-  two k h = rw (s .rest k h, s .rest (k + 1) (omega arith))
-
-  four : (k : ℕ) → 5 ≤ k → u32At t k ≡ u32At u k
-  unfolding u32At
-  four k h = rw (two k h, two (k + 2) (omega arith))
+  two k h = Agree.two t u 5 Upto down same k h tt
 
   nodes : nodeCount t ≡ nodeCount u
   unfolding nodeCount
@@ -41,55 +47,31 @@ module _ (t u : List ℕ) (s : Twins t u) where
   unfolding globalCount
   globals = two 9 (omega arith)
 
-  kind : (i : ℕ) → kindAt t i ≡ kindAt u i
-  unfolding kindAt
-  kind i = s .rest (nodeAt i + 0) (omega arith)
-
-  role : (i : ℕ) → roleAt t i ≡ roleAt u i
-  unfolding roleAt
-  role i = s .rest (nodeAt i + 1) (omega arith)
-
-  size : (i : ℕ) → sizeAt t i ≡ sizeAt u i
-  unfolding sizeAt
-  size i = two (nodeAt i + 2) (omega arith)
-
-  begin : (i : ℕ) → beginAt t i ≡ beginAt u i
-  unfolding beginAt
-  begin i = four (nodeAt i + 4) (omega arith)
-
-  end : (i : ℕ) → endAt t i ≡ endAt u i
-  unfolding endAt
-  end i = four (nodeAt i + 8) (omega arith)
-
-  value : (i : ℕ) → valueAt t i ≡ valueAt u i
-  unfolding valueAt
-  value i = two (nodeAt i + 12) (omega arith)
-
-  last : (i : ℕ) → lastAt t i ≡ lastAt u i
-  unfolding lastAt
-  last i = two (nodeAt i + 14) (omega arith)
-
   -- ---- the tree
 
-  head : (i : ℕ) → headAt t i ≡ headAt u i
-  unfolding headAt spotAt
-  head i = rw (kind i, role i, begin i, end i, value i)
+  kind : (i : ℕ) → kindAt t i ≡ kindAt u i
+  kind i = Agree.kind t u 5 Upto down same (omega arith) i tt
 
-  forest-in : (k i e : ℕ) → forestIn k t i e ≡ forestIn k u i e
-  unfolding forestIn
-  forest-in zero i e = refl
-  forest-in (suc k) i e = go (ltb i e) (forest-in k (i + 1) (i + sizeAt u i)) (forest-in k (i + sizeAt u i) e)
-    where
-      go : (b : Bool) → forestIn k t (i + 1) (i + sizeAt u i) ≡ forestIn k u (i + 1) (i + sizeAt u i)
-          → forestIn k t (i + sizeAt u i) e ≡ forestIn k u (i + sizeAt u i) e
-          → _≡_ {A = Forest} (elim b [ true ↦ node (headAt t i) (forestIn k t (i + 1) (i + sizeAt t i)) (forestIn k t (i + sizeAt t i) e) | false ↦ leaf ])
-          (elim b [ true ↦ node (headAt u i) (forestIn k u (i + 1) (i + sizeAt u i)) (forestIn k u (i + sizeAt u i) e) | false ↦ leaf ])
-      go true a b = rw (head i, size i, a, b)
-      go false a b = refl
+  role : (i : ℕ) → roleAt t i ≡ roleAt u i
+  role i = Agree.role t u 5 Upto down same (omega arith) i tt
+
+  size : (i : ℕ) → sizeAt t i ≡ sizeAt u i
+  size i = Agree.size t u 5 Upto down same (omega arith) i tt
+
+  begin : (i : ℕ) → beginAt t i ≡ beginAt u i
+  begin i = Agree.begin t u 5 Upto down same (omega arith) i tt
+
+  end : (i : ℕ) → endAt t i ≡ endAt u i
+  end i = Agree.end t u 5 Upto down same (omega arith) i tt
+
+  value : (i : ℕ) → valueAt t i ≡ valueAt u i
+  value i = Agree.value t u 5 Upto down same (omega arith) i tt
+
+  last : (i : ℕ) → lastAt t i ≡ lastAt u i
+  last i = Agree.last t u 5 Upto down same (omega arith) i tt
 
   forest : (i e : ℕ) → forestOf t i e ≡ forestOf u i e
-  unfolding forestOf
-  forest i e = forest-in (e - i) i e
+  forest i e = Agree.forest t u 5 Upto down same (omega arith) Upto (λ i e h b. tt) (λ i e h b. tt) i e tt
 
   pub same-tree : treeOf t ≡ treeOf u
   unfolding treeOf
@@ -97,23 +79,9 @@ module _ (t u : List ℕ) (s : Twins t u) where
 
   -- ---- the table and the globals
 
-  bytes : (k o : ℕ) → 5 ≤ o → bytesFrom k t o ≡ bytesFrom k u o
-  bytes zero o h = refl
-  bytes (suc k) o h = rw (s .rest o h, bytes k (o + 1) (omega arith))
-
-  value-from : (o : ℕ) → 5 ≤ o → valueFrom t o ≡ valueFrom u o
-  value-from o h = rw (s .rest o h, two (o + 1) (omega arith), bytes (u16At u (o + 1)) (o + 3) (omega arith))
-
-  after-same : (o : ℕ) → 5 ≤ o → after t o ≡ after u o
-  after-same o h = rw (two (o + 1) (omega arith))
-
-  values-from : (k o : ℕ) → 5 ≤ o → valuesFrom k t o ≡ valuesFrom k u o
-  values-from zero o h = refl
-  values-from (suc k) o h = ap₂ (λ (v : Value) (vs : List Value). v ∷ vs) (value-from o h)
-      (values-from k (after t o) (omega arith) ∙ ap (λ (a : ℕ). valuesFrom k u a) (after-same o h))
-
   pub same-table : tableOf t ≡ tableOf u
-  same-table = rw (nodes, values) (values-from (valueCount u) (nodeAt (nodeCount u)) (omega arith))
+  same-table =
+      rw (nodes, values) (Agree.values-from t u 5 Upto down same (λ k o. Unit {0}) (λ k o b. tt) (λ k o b. tt) (valueCount u) (nodeAt (nodeCount u)) (omega arith) tt)
 
   low : (n i : ℕ) → 5 ≤ offset u n i
   unfolding offset
@@ -123,7 +91,7 @@ module _ (t u : List ℕ) (s : Twins t u) where
   offsets : (n i : ℕ) → offset t n i ≡ offset u n i
   unfolding offset
   offsets n zero = refl
-  offsets n (suc i) = rw (offsets n i) (after-same (offset u n i) (low n i))
+  offsets n (suc i) = rw (offsets n i) (Agree.after-same t u 5 Upto down same (offset u n i) (low n i) tt)
 
   globals-from : globalsFrom t ≡ globalsFrom u
   globals-from = rw (nodes, values) (offsets (nodeCount u) (valueCount u))

@@ -10,4 +10,5 @@ pub mod Children
 pub mod Judge
 pub mod Written
 pub mod Versions
+pub mod Releases
 pub mod code

@@ -8,7 +8,8 @@ use lib.Dec.{eqb, leb}
 use lib.ListN.{length}
 use Rattle.tree.specs.Forest.{Spot, Forest, Forest.none as leaf, node}
 use Rattle.rules.specs.Order.{Sort, Cmd, skip, _⨟_, use-of, set-of, stop, branch, loop, scope}
-use Rattle.rules.specs.Names.{Abort, no-abort, aborts, smaller, abort-of, unloop, same, has-name, Setting, Warning, warn, warn-if, warn-all, keep, join-sure, unused, is-assign, Found, nowhere, surely, perhaps}
+use Rattle.rules.specs.Record.{keep}
+use Rattle.rules.specs.Names.{Abort, no-abort, aborts, smaller, abort-of, unloop, same, has-name, Setting, Warning, warn, warn-if, warn-all, join-sure, unused, is-assign, Found, nowhere, surely, perhaps}
 
 abbrev pub put {ℓ} : {A : Type ℓ} → Bool → A → List A → List A
 put true a l = l
