@@ -78,18 +78,7 @@ pub all-passed : refusal [] ≡ none
 unfolding refusal
 all-passed = refl
 
--- a call that passed its checks has its work room
-pub work-passed : (a c : Check) (lent : ℕ) → refusal (a ∷ work-room lent ∷ c ∷ []) ≡ none → work-words ≤ lent
-unfolding refusal
-work-passed a c lent = go (gives a) (ltb lent work-words) refl
-  where
-    go : (x : Option Refusal) (s : Bool) → ltb lent work-words ≡ s
-        → or-else x (or-else (refuse-if s WorkRoom) (or-else (gives c) none)) ≡ none → work-words ≤ lent
-    go none false e h = ltb-false lent work-words e
-    go none true e h = let z : _≡_ {A = ℕ} 0 1 = cc h in absurd (omega arith)
-    go (some x) s e h = let z : _≡_ {A = ℕ} 0 1 = cc h in absurd (omega arith)
-
--- .. and room for its records
+-- a call that passed its checks has room for its records
 pub room-passed : (a b : Check) (n lent : ℕ) → refusal (a ∷ b ∷ answer-room n lent ∷ []) ≡ none → width * n ≤ lent
 unfolding refusal
 room-passed a b n lent = go (gives a) (gives b) (ltb lent (width * n)) refl

@@ -1,13 +1,12 @@
 -- 02, §13, "More known names": with the same nodes and values and with globals given twice, the second containing the first, the
 -- second list is the first without the code 5 records whose name the second holds. Assumes nothing.
-use Prim.Native.Nat.{ℕ, zero, suc, _*_, _≤_}
+use Prim.Native.Nat.{ℕ}
 use native.Mathlib.Omega.{arith}
 use mathlib.Core.Path.{_≡_, refl, sym, ap, ap₂, subst, _∙_}
 use mathlib.Core.Bool.{Bool, true, false, not, _&&_, _||_}
 use mathlib.Core.List.{List, [], _∷_, _++_, map, append-nil}
 use mathlib.Core.Option.{Option, none, some}
 use lib.Dec.{eqb, T}
-use lib.ListN.{length, getD, set}
 use Rattle.tree.specs.Bytes.{globalCount}
 use Rattle.tree.specs.Forest.{Spot, Head, treeOf}
 use Rattle.tree.specs.Table.{tableOf, spells, underscored, is-global, globalsOf}
@@ -17,9 +16,9 @@ use Rattle.tree.specs.declared.Facts.{Facts}
 use Rattle.tree.specs.declared.Judged.the-variants.{Valid}
 use Rattle.tree.specs.declared.Mode.{Mode}
 use Rattle.tree.proofs.Releases.{same-table, same-tree, given-globals, ungiven-globals}
-use Rattle.rules.specs.Record.{Rec, width, keep, Each}
+use Rattle.rules.specs.Record.{Rec, keep, Each}
 use Rattle.rules.specs.Order.{Sort, Cmd, fail-name, body}
-use Rattle.rules.specs.Names.{same, Scope, Warning, warned, warn-new, warn, warn-if, warn-all, passed, unused, farewell, undefined, names-of, told, met-in, names-list}
+use Rattle.rules.specs.Names.{same, Scope, Warning, warned, warn-new, warn-if, warn-all, passed, unused, farewell, undefined, names-of, told, met-in, names-list}
 use Rattle.rules.specs.Flow.{flow-list}
 use Rattle.rules.specs.Incompatible.{incompatible-list}
 use Rattle.rules.specs.Dubious.{dubious-list}
@@ -31,13 +30,14 @@ use Rattle.rules.proofs.Lists.{keep-so, keep-not, keep-each, keep-appen
 
 -- ---- names: the warnings of a command, with these globals and with those
 
-abbrev Other : ℕ → Type 0
-Other c = eqb c 5 ≡ false
+-- a code but 5
+abbrev Not-5 : ℕ → Type 0
+Not-5 c = eqb c 5 ≡ false
 
-other-sorts : (o : Sort) → Other (unused o)
-other-sorts Sort.load = refl
-other-sorts Sort.assign = refl
-other-sorts Sort.argument = refl
+unused-not-5 : (o : Sort) → Not-5 (unused o)
+unused-not-5 Sort.load = refl
+unused-not-5 Sort.assign = refl
+unused-not-5 Sort.argument = refl
 
 not-both : {A : Type 0} (b : Bool) → b ≡ true → b ≡ false → A
 not-both b p q = let z : _≡_ {A = ℕ} 0 1 = cc in absurd (omega arith)
@@ -50,13 +50,13 @@ module _ (given known : ℕ → Bool) (more : (v : ℕ) → given v ≡ true →
   abbrev stays : Warning → Bool
   stays w = not (eqb (w .code) 5 && known (w .spot .value))
 
-  -- "Each pair (span, name) is warned once": a spot whose name isn't known was warned, whether or not those are left out
+  -- "Each pair (span, name) is warned once": whether a spot was warned whose name isn't known, those that go don't change
   warned-kept : (s : Spot) → known (s .value) ≡ false → (ws : List Warning) → warned s (keep stays ws) ≡ warned s ws
   warned-kept s e [] = refl
   warned-kept s e (w ∷ ws) = go (stays w) refl (same s (w .spot)) refl (warned-kept s e ws)
     where
-      other : stays w ≡ false → same s (w .spot) ≡ true → warned s (keep stays ws) ≡ true
-      other q r =
+      earlier : stays w ≡ false → same s (w .spot) ≡ true → warned s (keep stays ws) ≡ true
+      earlier q r =
           let h : s ≡ w .spot = same-sound s (w .spot) (subst T (sym r) tt) in
           let k : known (w .spot .value) ≡ false = ap (λ (x : Spot). known (x .value)) (sym h) ∙ e in
           not-both (stays w) (ap (λ (b : Bool). not (eqb (w .code) 5 && b)) k ∙ and-not (eqb (w .code) 5)) q
@@ -68,7 +68,7 @@ module _ (given known : ℕ → Bool) (more : (v : ℕ) → given v ≡ true →
       go : (a : Bool) → stays w ≡ a → (b : Bool) → same s (w .spot) ≡ b → warned s (keep stays ws) ≡ warned s ws
           → warned s (keep stays (w ∷ ws)) ≡ (same s (w .spot) || warned s ws)
       go true q b r h = ap (warned s) (keep-so stays w ws q) ∙ ap (λ (b : Bool). same s (w .spot) || b) h
-      go false q true r h = ap (warned s) (keep-not stays w ws q) ∙ other q r ∙ ap (λ (b : Bool). b || warned s ws) (sym r)
+      go false q true r h = ap (warned s) (keep-not stays w ws q) ∙ earlier q r ∙ ap (λ (b : Bool). b || warned s ws) (sym r)
       go false q false r h = ap (warned s) (keep-not stays w ws q) ∙ h ∙ ap (λ (b : Bool). b || warned s ws) (sym r)
 
   -- one use that nothing sets
@@ -99,7 +99,7 @@ module _ (given known : ℕ → Bool) (more : (v : ℕ) → given v ≡ true →
       ∙ ap (warn-all 5 (λ s. not (known (s .value))) ss) (step s ws (given (s .value)) refl (known (s .value)) refl)
 
   -- the globals are asked after all else, and no warning before that has code 5
-  undefined-quieted : (c : Scope) (ws : List Warning) → Each (λ w. Other (w .code)) ws
+  undefined-quieted : (c : Scope) (ws : List Warning) → Each (λ w. Not-5 (w .code)) ws
       → undefined (some known) c ws ≡ keep stays (undefined (some given) c ws)
   undefined-quieted c ws h =
       ap (warn-all 5 (λ s. not (known (s .value))) (passed c)) (sym (keep-each stays ws (each-more _ _ (λ w e. no-five w (known (w .spot .value)) e) ws h)))
@@ -108,58 +108,58 @@ module _ (given known : ℕ → Bool) (more : (v : ℕ) → given v ≡ true →
   -- NAMES: of the warnings with the first globals those stay
   warnings-quieted : (u : ℕ → Bool) (c : Cmd) → names-of u (some known) c ≡ keep stays (names-of u (some given) c)
   warnings-quieted u c =
-      let st = Coded.after Other other-sorts refl refl u c in
-      undefined-quieted (st .here) (farewell u true (st .here) (st .out)) (Coded.set-codes Other other-sorts refl refl u c)
+      let st = Coded.after Not-5 unused-not-5 refl refl u c in
+      undefined-quieted (st .here) (farewell u true (st .here) (st .out)) (Coded.set-codes Not-5 unused-not-5 refl refl u c)
 
 -- ---- names: with no globals given, and with any or none
 
-abbrev other : Warning → Bool
-other w = not (eqb (w .code) 5)
+abbrev not-5 : Warning → Bool
+not-5 w = not (eqb (w .code) 5)
 
-five-left : (s : Spot) (ws : List Warning) (b : Bool) → keep other (warn-new 5 s ws b) ≡ keep other ws
+five-left : (s : Spot) (ws : List Warning) (b : Bool) → keep not-5 (warn-new 5 s ws b) ≡ keep not-5 ws
 five-left s ws true = refl
 five-left s ws false =
-    keep-append other ws (record { code = 5; spot = s } ∷ [])
-    ∙ ap (λ (l : List Warning). keep other ws ++ l) (keep-not other (record { code = 5; spot = s }) [] refl) ∙ append-nil (keep other ws)
+    keep-append not-5 ws (record { code = 5; spot = s } ∷ [])
+    ∙ ap (λ (l : List Warning). keep not-5 ws ++ l) (keep-not not-5 (record { code = 5; spot = s }) [] refl) ∙ append-nil (keep not-5 ws)
 
-fives-left : (p : Spot → Bool) (ss : List Spot) (ws : List Warning) → keep other (warn-all 5 p ss ws) ≡ keep other ws
+fives-left : (p : Spot → Bool) (ss : List Spot) (ws : List Warning) → keep not-5 (warn-all 5 p ss ws) ≡ keep not-5 ws
 fives-left p [] ws = refl
 fives-left p (s ∷ ss) ws = fives-left p ss (warn-if (p s) 5 s ws) ∙ one (p s)
   where
-    one : (b : Bool) → keep other (warn-if b 5 s ws) ≡ keep other ws
+    one : (b : Bool) → keep not-5 (warn-if b 5 s ws) ≡ keep not-5 ws
     one true = five-left s ws (warned s ws)
     one false = refl
 
-undefined-left : (g : Option (ℕ → Bool)) (c : Scope) (ws : List Warning) → Each (λ w. Other (w .code)) ws → keep other (undefined g c ws) ≡ ws
-undefined-left g c ws h = go g ∙ keep-each other ws (each-more _ _ (λ w e. ap not e) ws h)
+undefined-left : (g : Option (ℕ → Bool)) (c : Scope) (ws : List Warning) → Each (λ w. Not-5 (w .code)) ws → keep not-5 (undefined g c ws) ≡ ws
+undefined-left g c ws h = go g ∙ keep-each not-5 ws (each-more _ _ (λ w e. ap not e) ws h)
   where
-    go : (g : Option (ℕ → Bool)) → keep other (undefined g c ws) ≡ keep other ws
+    go : (g : Option (ℕ → Bool)) → keep not-5 (undefined g c ws) ≡ keep not-5 ws
     go none = refl
     go (some given) = fives-left (λ s. not (given (s .value))) (passed c) ws
 
-warnings-ungiven : (u : ℕ → Bool) (g : Option (ℕ → Bool)) (c : Cmd) → names-of u none c ≡ keep other (names-of u g c)
+warnings-ungiven : (u : ℕ → Bool) (g : Option (ℕ → Bool)) (c : Cmd) → names-of u none c ≡ keep not-5 (names-of u g c)
 warnings-ungiven u g c =
-    let st = Coded.after Other other-sorts refl refl u c in
-    sym (undefined-left g (st .here) (farewell u true (st .here) (st .out)) (Coded.set-codes Other other-sorts refl refl u c))
+    let st = Coded.after Not-5 unused-not-5 refl refl u c in
+    sym (undefined-left g (st .here) (farewell u true (st .here) (st .out)) (Coded.set-codes Not-5 unused-not-5 refl refl u c))
 
 -- ---- lists
 
 module _ (u : List ℕ) where
-  abbrev stays-in : Rec → Bool
-  stays-in r = not (held u r)
+  abbrev pub not-held : Rec → Bool
+  not-held r = not (held u r)
 
   -- a list without code 5 is quieted to itself
   pub quieted-same : (rs : List Rec) → Each (λ r. eqb (r .code) 5 ≡ false) rs → Quieted-by u rs rs
   quieted-same rs h =
-      sym (keep-each stays-in rs (each-more _ _ (λ r e. ap (λ (b : Bool). not (b && is-global u (r .spot .value))) e) rs h))
+      sym (keep-each not-held rs (each-more _ _ (λ r e. ap (λ (b : Bool). not (b && is-global u (r .spot .value))) e) rs h))
 
   -- .. and two lists, one after the other, each for itself
   pub quieted-append : (rs rs′ qs qs′ : List Rec) → Quieted-by u rs qs → Quieted-by u rs′ qs′ → Quieted-by u (rs ++ rs′) (qs ++ qs′)
-  quieted-append rs rs′ qs qs′ e f = ap₂ (λ (a b : List Rec). a ++ b) e f ∙ sym (keep-append stays-in rs rs′)
+  quieted-append rs rs′ qs qs′ e f = ap₂ (λ (a b : List Rec). a ++ b) e f ∙ sym (keep-append not-held rs rs′)
 
   -- .. and what is kept of a list
   pub quieted-keep : (p : Rec → Bool) (rs qs : List Rec) → Quieted-by u rs qs → Quieted-by u (keep p rs) (keep p qs)
-  quieted-keep p rs qs e = ap (keep p) e ∙ keep-both p stays-in rs
+  quieted-keep p rs qs e = ap (keep p) e ∙ keep-both p not-held rs
 
 -- ---- files
 

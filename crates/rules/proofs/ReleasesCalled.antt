@@ -19,18 +19,17 @@ use Rattle.rules.specs.Flow.{flow-list}
 use Rattle.rules.specs.Incompatible.{incompatible-list}
 use Rattle.rules.specs.Dubious.{dubious-list}
 use Rattle.rules.specs.Joined.{one-more, raise, raise-all}
-use Rattle.rules.specs.Outcome.{work-words, refusal}
+use Rattle.rules.specs.Outcome.{work-words}
 use Rattle.rules.specs.Calls.{done, done-with-work, names-call, flow-call, incompatible-call, dubious-call}
-use Rattle.rules.specs.Afterwards.{Gives, Lists, Warned-or-refused, warned, refused}
+use Rattle.rules.specs.Afterwards.{records-in, Gives, Warned-or-refused, warned, refused}
 use Rattle.rules.specs.Releases.{held, Quieted-by, count-in, Quieted-call}
 use Rattle.rules.specs.declared.Answer.{Answer}
 use Rattle.rules.specs.declared.Outcome.the-variants.{Listed}
-use Rattle.rules.proofs.Bools.{so}
 use Rattle.rules.proofs.Lists.{keep-so, keep-not, keep-fewer}
 use Rattle.rules.proofs.Tally.{length-raise, set-there}
-use Rattle.rules.proofs.Called.{warned-or-refused, lists, records-all, valid-where-listed}
-use Rattle.rules.proofs.Answered.{fit, work-passed, room-passed}
-use Rattle.rules.proofs.Releases.{same-flow, same-incompatible, same-dubious, quieted-names}
+use Rattle.rules.proofs.Called.{length-records, warned-or-refused, lists, records-all, valid-where-listed}
+use Rattle.rules.proofs.Answered.{fit}
+use Rattle.rules.proofs.Releases.{not-held, same-flow, same-incompatible, same-dubious, quieted-names}
 
 -- ---- counts
 
@@ -60,10 +59,7 @@ raise-other (suc i) zero ns h = refl
 raise-other (suc i) (suc k) ns h = set-there ns i k (one-more (getD ns i 0)) (λ e. h (ap suc (sym e)))
 
 module _ (u : List ℕ) (c : ℕ) (other : c ≡ 5 → ⊥) where
-  abbrev stays : Rec → Bool
-  stays r = not (held u r)
-
-  held-five : (r : Rec) → stays r ≡ false → r .code ≡ 5
+  held-five : (r : Rec) → not-held u r ≡ false → r .code ≡ 5
   held-five r e = go (eqb (r .code) 5) refl e
     where
       go : (b : Bool) → eqb (r .code) 5 ≡ b → not (b && is-global u (r .spot .value)) ≡ false → r .code ≡ 5
@@ -71,59 +67,79 @@ module _ (u : List ℕ) (c : ℕ) (other : c ≡ 5 → ⊥) where
       go false p q = let z : _≡_ {A = ℕ} 0 1 = cc in absurd (omega arith)
 
   counts-alike : (rs : List Rec) (ns ms : List ℕ) → length ns ≡ length ms → count-in c ns ≡ count-in c ms
-      → count-in c (raise-all (keep stays rs) ns) ≡ count-in c (raise-all rs ms)
+      → count-in c (raise-all (keep (not-held u) rs) ns) ≡ count-in c (raise-all rs ms)
   unfolding raise-all
   counts-alike [] ns ms l e = e
-  counts-alike (r ∷ rs) ns ms l e = go (stays r) refl (counts-alike rs)
+  counts-alike (r ∷ rs) ns ms l e = go (not-held u r) refl (counts-alike rs)
     where
-      go : (b : Bool) → stays r ≡ b
-          → ((ns ms : List ℕ) → length ns ≡ length ms → count-in c ns ≡ count-in c ms → count-in c (raise-all (keep stays rs) ns) ≡ count-in c (raise-all rs ms))
-          → count-in c (raise-all (keep stays (r ∷ rs)) ns) ≡ count-in c (raise-all rs (raise (r .code) ms))
+      go : (b : Bool) → not-held u r ≡ b
+          → ((ns ms : List ℕ) → length ns ≡ length ms → count-in c ns ≡ count-in c ms → count-in c (raise-all (keep (not-held u) rs) ns) ≡ count-in c (raise-all rs ms))
+          → count-in c (raise-all (keep (not-held u) (r ∷ rs)) ns) ≡ count-in c (raise-all rs (raise (r .code) ms))
       go true p f =
-          ap (λ (l : List Rec). count-in c (raise-all l ns)) (keep-so stays r rs p)
+          ap (λ (l : List Rec). count-in c (raise-all l ns)) (keep-so (not-held u) r rs p)
           ∙ f (raise (r .code) ns) (raise (r .code) ms) (length-raise (r .code) ns ∙ l ∙ sym (length-raise (r .code) ms)) (raise-alike (r .code) c ns ms l e)
       go false p f =
-          ap (λ (l : List Rec). count-in c (raise-all l ns)) (keep-not stays r rs p)
+          ap (λ (l : List Rec). count-in c (raise-all l ns)) (keep-not (not-held u) r rs p)
           ∙ f ns (raise (r .code) ms) (l ∙ sym (length-raise (r .code) ms)) (e ∙ sym (raise-other (r .code) c ms (λ q. other (q ∙ held-five r p))))
 
--- ---- two calls that run names, of a list and of what a release quiets it to
+-- ---- a list and what a release quiets it to
 
-module _ (u : List ℕ) (rs qs : List Rec) (quiet : Quieted-by u rs qs)
-    (t work room tally : List ℕ) (a : Answer) (room′ work′ : List ℕ) (gives : Gives (done-with-work rs t work room tally) a room′ work′)
-    (work₂ room₂ : List ℕ) (b : Answer) (room₂′ work₂′ : List ℕ) (gives₂ : Gives (done-with-work qs u work₂ room₂ tally) b room₂′ work₂′) where
-  fewer : length qs ≤ length rs
-  fewer = rw quiet (keep-fewer (λ r. not (held u r)) rs)
+module _ (u : List ℕ) (rs qs : List Rec) (quiet : Quieted-by u rs qs) where
+  -- the second has no more records, so that refusal 11 asks for no more
+  pub quieted-fewer : length qs ≤ length rs
+  quieted-fewer = rw quiet (keep-fewer (not-held u) rs)
 
-  -- THE CALLS: with as much room as was enough for the first, the second has its list
-  pub quieted-call : (f : Facts) → judged u ≡ Valid f → length work ≤ length work₂ → length room ≤ length room₂
-      → (n : ℕ) → a .outcome ≡ Listed n → Quieted-call u n a b room′ room₂′
-  quieted-call f v w o n i = go (warned-or-refused rs t work room tally a room′ work′ gives)
-    where
-      go : Warned-or-refused rs t tally work room a room′ work′ → Quieted-call u n a b room′ room₂′
-      go (refused why l) = let z : _≡_ {A = ℕ} 0 1 = cc (l .outcome, i) in absurd (omega arith)
-      go (warned l) =
-          let h : work-words ≤ length work₂ = omega (arith, work-passed _ _ (length work) (l .none-given), w) in
-          let k : width * length qs ≤ length room₂ = omega (arith, room-passed _ _ (length rs) (length room) (l .none-given), o, fewer) in
-          let m = lists qs u work₂ room₂ tally b room₂′ work₂′ gives₂ f v h k in
-          let e : n ≡ length rs = cc (l .outcome, i) in
-          record {
-            many = length qs;
-            outcome = m .outcome;
-            no-more = omega (arith, fewer, e);
-            records = m .records ∙ quiet ∙ ap (keep (λ r. not (held u r))) (sym (records-all rs t work room tally a room′ work′ gives n i));
-            counts = λ c other. ap (count-in c) (m .counts) ∙ ap (λ (x : List Rec). count-in c (raise-all x tally)) quiet
-                ∙ counts-alike u c other rs tally tally refl refl ∙ ap (count-in c) (sym (l .counts));
-          }
+  -- what any calls leave that have these lists, their counts raised from the same ones
+  pub quieted-left : (room room₂ tally : List ℕ) → records-in (length rs) room ≡ rs → records-in (length qs) room₂ ≡ qs
+      → Quieted-call u (length rs) (length qs) room room₂ (raise-all rs tally) (raise-all qs tally)
+  quieted-left room room₂ tally e f =
+      record {
+        no-more = quieted-fewer;
+        records = f ∙ quiet ∙ ap (keep (not-held u)) (sym e);
+        counts = λ c other. ap (λ (x : List Rec). count-in c (raise-all x tally)) quiet ∙ counts-alike u c other rs tally tally refl refl;
+      }
 
--- names' own calls
-pub names-quieted : (t u : List ℕ) → More-known t u → (work room tally : List ℕ) (a : Answer) (room′ work′ : List ℕ)
-    → Gives (names-call t work room tally) a room′ work′
-    → (work₂ room₂ : List ℕ) (b : Answer) (room₂′ work₂′ : List ℕ) → Gives (names-call u work₂ room₂ tally) b room₂′ work₂′
-    → (g : Facts) → judged u ≡ Valid g → length work ≤ length work₂ → length room ≤ length room₂
-    → (n : ℕ) → a .outcome ≡ Listed n → Quieted-call u n a b room′ room₂′
-names-quieted t u m work room tally a room′ work′ x work₂ room₂ b room₂′ work₂′ y g w h k n i =
-    let v = valid-where-listed (names-list t) t work room tally a room′ work′ x n i in
-    quieted-call u (names-list t) (names-list u) (quieted-names t u m (v .0) (v .1)) t work room tally a room′ work′ x work₂ room₂ b room₂′ work₂′ y g w h k n i
+  -- of calls that run names
+  module _ (t work room tally : List ℕ) (a : Answer) (room′ work′ : List ℕ) (gives : Gives (done-with-work rs t work room tally) a room′ work′)
+      (work₂ room₂ : List ℕ) (b : Answer) (room₂′ work₂′ : List ℕ) (gives₂ : Gives (done-with-work qs u work₂ room₂ tally) b room₂′ work₂′) where
+    -- THE CALLS: where both have their lists
+    pub quieted-call : (n m : ℕ) → a .outcome ≡ Listed n → b .outcome ≡ Listed m → Quieted-call u n m room′ room₂′ (a .tally) (b .tally)
+    quieted-call n m i j =
+        go (warned-or-refused rs t work room tally a room′ work′ gives) (warned-or-refused qs u work₂ room₂ tally b room₂′ work₂′ gives₂)
+      where
+        go : Warned-or-refused rs t tally work room a room′ work′ → Warned-or-refused qs u tally work₂ room₂ b room₂′ work₂′
+            → Quieted-call u n m room′ room₂′ (a .tally) (b .tally)
+        go (refused why l) k = let z : _≡_ {A = ℕ} 0 1 = cc (l .outcome, i) in absurd (omega arith)
+        go (warned l) (refused why k) = let z : _≡_ {A = ℕ} 0 1 = cc (k .outcome, j) in absurd (omega arith)
+        go (warned l) (warned k) =
+            let x : n ≡ length rs = cc (l .outcome, i) in
+            let y : m ≡ length qs = cc (k .outcome, j) in
+            rw (x, y, l .counts, k .counts) (quieted-left room′ room₂′ tally (l .records) (k .records))
+
+    -- THE ROOM: what is enough for the first is enough for the second
+    pub no-more-room : (f : Facts) → judged u ≡ Valid f → work-words ≤ length work₂ → (n : ℕ) → a .outcome ≡ Listed n → width * n ≤ length room₂
+        → b .outcome ≡ Listed (length qs)
+    no-more-room f v w n i o =
+        let e = length-records n room′ in
+        let d = ap length (records-all rs t work room tally a room′ work′ gives n i) in
+        lists qs u work₂ room₂ tally b room₂′ work₂′ gives₂ f v w (omega (arith, quieted-fewer, e, d, o)) .outcome
+
+-- ---- names' own calls
+
+module _ (t u : List ℕ) (k : More-known t u) (work room tally : List ℕ) (a : Answer) (room′ work′ : List ℕ)
+    (gives : Gives (names-call t work room tally) a room′ work′)
+    (work₂ room₂ : List ℕ) (b : Answer) (room₂′ work₂′ : List ℕ) (gives₂ : Gives (names-call u work₂ room₂ tally) b room₂′ work₂′)
+    (n : ℕ) (i : a .outcome ≡ Listed n) where
+  quiet : Quieted-by u (names-list t) (names-list u)
+  quiet = let v = valid-where-listed (names-list t) t work room tally a room′ work′ gives n i in quieted-names t u k (v .0) (v .1)
+
+  pub names-quieted : (m : ℕ) → b .outcome ≡ Listed m → Quieted-call u n m room′ room₂′ (a .tally) (b .tally)
+  names-quieted m j =
+      quieted-call u (names-list t) (names-list u) quiet t work room tally a room′ work′ gives work₂ room₂ b room₂′ work₂′ gives₂ n m i j
+
+  pub names-room : (f : Facts) → judged u ≡ Valid f → work-words ≤ length work₂ → width * n ≤ length room₂ → b .outcome ≡ Listed (length (names-list u))
+  names-room f v w o =
+      no-more-room u (names-list t) (names-list u) quiet t work room tally a room′ work′ gives work₂ room₂ b room₂′ work₂′ gives₂ f v w n i o
 
 -- ---- the calls of the other passes answer and leave the same
 

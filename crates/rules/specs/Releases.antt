@@ -7,13 +7,13 @@ use lib.Dec.{eqb}
 use lib.ListN.{getD}
 use Rattle.tree.specs.Bytes.{globalCount}
 use Rattle.tree.specs.Table.{is-global}
-use Rattle.tree.specs.Releases.{Same-script, Given, Contains}
+use Rattle.tree.specs.Releases.{Same-script, Given}
+use Rattle.tree.specs.Judge.{factsOf, judged}
+use Rattle.tree.specs.declared.Judged.the-variants.{Valid}
 use Rattle.tree.specs.declared.Mode.{Mode}
 use Rattle.rules.specs.Record.{Rec, keep}
 use Rattle.rules.specs.Joined.{lint-list}
 use Rattle.rules.specs.Afterwards.{records-in}
-use Rattle.rules.specs.declared.Answer.{Answer}
-use Rattle.rules.specs.declared.Outcome.the-variants.{Listed}
 
 -- "the code 5 records whose name the second holds"; u: the second file
 abbrev pub held : List ℕ → Rec → Bool
@@ -23,28 +23,26 @@ held u r = eqb (r .code) 5 && is-global u (r .spot .value)
 abbrev pub Quieted-by : List ℕ → List Rec → List Rec → Type 0
 Quieted-by u first second = second ≡ keep (λ r. not (held u r)) first
 
--- the count of a code: that of code 1 stands first
+-- the count of a code in a tally: that of code 1 stands first, and 0 is no code
 abbrev pub count-in : ℕ → List ℕ → ℕ
 count-in zero tally = 0
 count-in (suc i) tally = getD tally i 0
 
--- Of two calls, the first of which answered a with n records in the answer room o: the second answers b with a list in o₂, which
--- has no more records, is the first without those, and has the same counts of all codes but 5.
-pub record Quieted-call (u : List ℕ) (n : ℕ) (a b : Answer) (o o₂ : List ℕ) : Type 0 where
-  pub many : ℕ
-  pub outcome : b .outcome ≡ Listed many
-  pub no-more : many ≤ n
-  pub records : Quieted-by u (records-in n o) (records-in many o₂)
-  pub counts : (c : ℕ) → (c ≡ 5 → ⊥) → count-in c (b .tally) ≡ count-in c (a .tally)
+-- What two calls leave, read back: the first n records in its answer room and a tally, the second m. The second list is the first without
+-- the records that are held, so it is no longer, and every code but 5 has the same count.
+pub record Quieted-call (u : List ℕ) (n m : ℕ) (room room₂ tally tally₂ : List ℕ) : Type 0 where
+  pub no-more : m ≤ n
+  pub records : Quieted-by u (records-in n room) (records-in m room₂)
+  pub counts : (c : ℕ) → (c ≡ 5 → ⊥) → count-in c tally₂ ≡ count-in c tally
 
--- where the first file gives no globals its list has no code 5, and all else of the second's
+-- where the first file gives no globals: its list is the second without all records of code 5
 abbrev pub Without-5 : List Rec → List Rec → Type 0
 Without-5 first second = first ≡ keep (λ r. not (eqb (r .code) 5)) second
 
--- "The case without globals given stands outside": all else is as in More-known, and yet the second list has what the first has not
+-- "The case without globals given stands outside": two valid files of one script, the first without, of which it is not so
 pub record Outside (t u : List ℕ) : Type 0 where
   pub script : Same-script t u
+  pub valid : (judged t ≡ Valid (factsOf t)) × (judged u ≡ Valid (factsOf u))
   pub not-given : globalCount t ≡ 65535
   pub second-given : Given u
-  pub contains : Contains t u
   pub fails : (mode : Mode) → Quieted-by u (lint-list mode t) (lint-list mode u) → ⊥

@@ -125,7 +125,7 @@ module _ (rs : List Rec) (t work room output : List ℕ) (a : Answer) (work′ r
       go (log-end f e l) = logged l
 
   -- a log is made of a valid file
-  valid-where-logged : (n : Sizes) → a .outcome ≡ Logged n → (f : Facts) × (judged t ≡ Valid f)
+  pub valid-where-logged : (n : Sizes) → a .outcome ≡ Logged n → (f : Facts) × (judged t ≡ Valid f)
   valid-where-logged n i = go end
     where
       go : End → (f : Facts) × (judged t ≡ Valid f)

@@ -21,13 +21,13 @@ pub record Same-script (t u : List ℕ) : Type 0 where
 abbrev pub Given : List ℕ → Type 0
 Given t = globalCount t ≡ 65535 → ⊥
 
--- the second file lists every global that the first does
+-- u lists every global that t does
 abbrev pub Contains : List ℕ → List ℕ → Type 0
-Contains t u = (v : ℕ) → is-global t v ≡ true → is-global u v ≡ true
+Contains u t = (v : ℕ) → is-global t v ≡ true → is-global u v ≡ true
 
 -- "with globals given twice, the second containing the first"
 pub record More-known (t u : List ℕ) : Type 0 where
   pub script : Same-script t u
   pub first-given : Given t
   pub second-given : Given u
-  pub contains : Contains t u
+  pub contains : Contains u t
