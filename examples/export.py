@@ -10,8 +10,8 @@ stand in the order of docs/TREE.md's table; a body of one statement is that stat
 
 Spans are byte offsets of the script as it stands in the file: a byte order mark counts as the three bytes that it is. A line
 ends with LF, CR LF or CR alone, as for Python. Lines `# globals: NAME ..` give the globals; without one they aren't given. The tree
-lists those that the script names, since no warning can be at another: so whatever else a release of the host adds, nodes and
-values stay, and a host may have any number of globals. A line `# dialect: 2` declares dialect 2, and the tree is of version 2;
+lists those that the script names, since no warning can be at another: so, where these lines stand last, a release of the host that
+adds globals changes neither nodes nor values, and a host may have any number of them. A line `# dialect: 2` declares dialect 2, and the tree is of version 2;
 without one, or with `# dialect: 1`, it is of version 1. Such lines begin at the margin, and count inside a string too.
 
 A script that can't be read or exported gets one line on standard error and no tree:

@@ -1,4 +1,4 @@
--- The codes of names' warnings: 1 to 4 and 6 until the module is left, 5 last of all. Assumes nothing.
+-- The codes of names' warnings: 1 to 4 and 6 before the globals are asked, then 5. Assumes nothing.
 use Prim.Native.Nat.{ℕ, suc}
 use mathlib.Core.Bool.{Bool, true, false, not}
 use mathlib.Core.List.{List, [], _∷_}

@@ -1,7 +1,6 @@
 -- 02, §13, "More known names": with the same nodes and values and with globals given twice, the second containing the first, the
 -- second list is the first without the code 5 records whose name the second holds. Assumes nothing.
 use Prim.Native.Nat.{ℕ}
-use native.Mathlib.Omega.{arith}
 use mathlib.Core.Path.{_≡_, refl, sym, ap, ap₂, subst, _∙_}
 use mathlib.Core.Bool.{Bool, true, false, not, _&&_, _||_}
 use mathlib.Core.List.{List, [], _∷_, _++_, map, append-nil}
@@ -15,6 +14,7 @@ use Rattle.tree.specs.Judge.{judged}
 use Rattle.tree.specs.declared.Facts.{Facts}
 use Rattle.tree.specs.declared.Judged.the-variants.{Valid}
 use Rattle.tree.specs.declared.Mode.{Mode}
+use Rattle.tree.proofs.Search.{clash}
 use Rattle.tree.proofs.Releases.{same-table, same-tree, given-globals, ungiven-globals}
 use Rattle.rules.specs.Record.{Rec, keep, Each}
 use Rattle.rules.specs.Order.{Sort, Cmd, fail-name, body}
@@ -39,9 +39,6 @@ unused-not-5 Sort.load = refl
 unused-not-5 Sort.assign = refl
 unused-not-5 Sort.argument = refl
 
-not-both : {A : Type 0} (b : Bool) → b ≡ true → b ≡ false → A
-not-both b p q = let z : _≡_ {A = ℕ} 0 1 = cc in absurd (omega arith)
-
 no-five : (w : Warning) (b : Bool) → eqb (w .code) 5 ≡ false → not (eqb (w .code) 5 && b) ≡ true
 no-five w b e = ap (λ (c : Bool). not (c && b)) e
 
@@ -59,7 +56,7 @@ module _ (given known : ℕ → Bool) (more : (v : ℕ) → given v ≡ true →
       earlier q r =
           let h : s ≡ w .spot = same-sound s (w .spot) (subst T (sym r) tt) in
           let k : known (w .spot .value) ≡ false = ap (λ (x : Spot). known (x .value)) (sym h) ∙ e in
-          not-both (stays w) (ap (λ (b : Bool). not (eqb (w .code) 5 && b)) k ∙ and-not (eqb (w .code) 5)) q
+          clash (ap (λ (b : Bool). not (eqb (w .code) 5 && b)) k ∙ and-not (eqb (w .code) 5)) q
         where
           and-not : (b : Bool) → not (b && false) ≡ true
           and-not true = refl
@@ -87,7 +84,7 @@ module _ (given known : ℕ → Bool) (more : (v : ℕ) → given v ≡ true →
     step : (a : Bool) → given (s .value) ≡ a → (b : Bool) → known (s .value) ≡ b
         → keep stays (warn-if (not a) 5 s ws) ≡ warn-if (not b) 5 s (keep stays ws)
     step true p true q = refl
-    step true p false q = not-both (known (s .value)) (more (s .value) p) q
+    step true p false q = clash (more (s .value) p) q
     step false p true q = new-known q (warned s ws)
     step false p false q = new-unknown q (warned s ws) ∙ ap (warn-new 5 s (keep stays ws)) (sym (warned-kept s q ws))
 

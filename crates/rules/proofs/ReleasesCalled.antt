@@ -22,7 +22,7 @@ use Rattle.rules.specs.Joined.{one-more, raise, raise-all}
 use Rattle.rules.specs.Outcome.{work-words}
 use Rattle.rules.specs.Calls.{done, done-with-work, names-call, flow-call, incompatible-call, dubious-call}
 use Rattle.rules.specs.Afterwards.{records-in, Gives, Warned-or-refused, warned, refused}
-use Rattle.rules.specs.Releases.{held, Quieted-by, count-in, Quieted-call}
+use Rattle.rules.specs.Releases.{Quieted-by, count-in, Quieted-call}
 use Rattle.rules.specs.declared.Answer.{Answer}
 use Rattle.rules.specs.declared.Outcome.the-variants.{Listed}
 use Rattle.rules.proofs.Lists.{keep-so, keep-not, keep-fewer}

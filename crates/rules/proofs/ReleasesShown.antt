@@ -72,5 +72,5 @@ outside =
       valid = (releases-valid .1, releases-valid .0 .0 .0);
       not-given = refl;
       second-given = given (release-1 1) refl;
-      fails = λ mode q. let f = quieted-fewer (release-1 1) (lint-list mode (not-released 1)) (lint-list mode (release-1 1)) q in omega (arith, f, lengths mode .0, lengths mode .1);
+      unquieted = λ mode q. let f = quieted-fewer (release-1 1) (lint-list mode (not-released 1)) (lint-list mode (release-1 1)) q in omega (arith, f, lengths mode .0, lengths mode .1);
     }

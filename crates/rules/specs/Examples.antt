@@ -571,11 +571,11 @@ not-released version = file-of version nightly nightly-values
 abbrev pub release-0 : ℕ → List ℕ
 release-0 version = file-given-of version [] nightly nightly-values
 
--- of examples/scripts, before a last line "# globals: log nights"
+-- examples/scripts/release-1, whose last line is "# globals: log nights"
 abbrev pub release-1 : ℕ → List ℕ
 release-1 version = file-given-of version (0 ∷ 4 ∷ []) nightly nightly-values
 
--- .. "# globals: drift log nights rate seeing"
+-- examples/scripts/release-2, whose last line is "# globals: drift log nights rate seeing"
 abbrev pub release-2 : ℕ → List ℕ
 release-2 version = file-given-of version (0 ∷ 1 ∷ 2 ∷ 4 ∷ 5 ∷ []) nightly nightly-values
 

@@ -28,8 +28,8 @@ abbrev pub count-in : ℕ → List ℕ → ℕ
 count-in zero tally = 0
 count-in (suc i) tally = getD tally i 0
 
--- What two calls leave, read back: the first n records in its answer room and a tally, the second m. The second list is the first without
--- the records that are held, so it is no longer, and every code but 5 has the same count.
+-- What two calls leave, read back: the first leaves n records in its answer room and a tally, the second m. The second list is the first
+-- without the records that are held, so it is no longer, and every code but 5 has the same count.
 pub record Quieted-call (u : List ℕ) (n m : ℕ) (room room₂ tally tally₂ : List ℕ) : Type 0 where
   pub no-more : m ≤ n
   pub records : Quieted-by u (records-in n room) (records-in m room₂)
@@ -45,4 +45,4 @@ pub record Outside (t u : List ℕ) : Type 0 where
   pub valid : (judged t ≡ Valid (factsOf t)) × (judged u ≡ Valid (factsOf u))
   pub not-given : globalCount t ≡ 65535
   pub second-given : Given u
-  pub fails : (mode : Mode) → Quieted-by u (lint-list mode t) (lint-list mode u) → ⊥
+  pub unquieted : (mode : Mode) → Quieted-by u (lint-list mode t) (lint-list mode u) → ⊥

@@ -12,7 +12,7 @@ use Rattle.tree.specs.Forest.{Forest, Forest.none as leaf, node, spotAt,
 use Rattle.tree.specs.Values.{Value, valueFrom, after}
 use Rattle.tree.specs.Table.{valuesFrom}
 
--- the bytes from low on are the same, up to every end that is such
+-- of the bytes from low on those before an end k with Upto k are the same
 module _ (t u : List ℕ) (low : ℕ) (Upto : ℕ → Type 0) (down : (j k : ℕ) → j ≤ k → Upto k → Upto j)
     (same : (k : ℕ) → low ≤ k → Upto (k + 1) → getD t k 0 ≡ getD u k 0) where
   -- ---- numbers
@@ -21,7 +21,7 @@ module _ (t u : List ℕ) (low : ℕ) (Upto : ℕ → Type 0) (down : (j k : ℕ
   unfolding u16At
   two k h b = rw (same k h (down (k + 1) (k + 2) (omega arith) b), same (k + 1) (omega arith) (down (k + 1 + 1) (k + 2) (omega arith) b))
 
-  pub four : (k : ℕ) → low ≤ k → Upto (k + 4) → u32At t k ≡ u32At u k
+  four : (k : ℕ) → low ≤ k → Upto (k + 4) → u32At t k ≡ u32At u k
   unfolding u32At
   four k h b = rw (two k h (down (k + 2) (k + 4) (omega arith) b), two (k + 2) (omega arith) (down (k + 2 + 2) (k + 4) (omega arith) b))
 
