@@ -20,7 +20,7 @@ use Rattle.tree.proofs.Link.{length-from}
 use Rattle.tree.proofs.Whole.{sound}
 use Rattle.tree.proofs.TableLaws.{length-table, at-table}
 use Rattle.tree.proofs.ValidTable.{value-formed}
-use Rattle.tree.proofs.ValueLaws.{offset-next}
+use Rattle.tree.proofs.ValueLaws.{offset-next, offset-later}
 use Rattle.base.proofs.Bools.{and-left}
 use Rattle.rules.specs.Codes.{short-name}
 use Rattle.json.specs.Escape.{escape, hexes}
@@ -44,13 +44,6 @@ bytes-part (suc k) t o h =
     let e : o + 1 ≡ suc o = add-one o in
     ap (λ (l : List ℕ). take (suc k) l) (drop-cons t o 0 (omega arith))
     ∙ ap (λ (l : List ℕ). getD t o 0 ∷ l) (rw e (bytes-part k t (suc o) (omega arith)))
-
--- an offset is no later than a later one
-offset-later : (t : List ℕ) (n i k : ℕ) → offset t n i ≤ offset t n (i + k)
-offset-later t n i zero = let e : i + 0 ≡ i = omega arith in rw e (omega arith)
-offset-later t n i (suc k) =
-    let e : i + suc k ≡ (i + k) + 1 = omega arith in
-    rw e (omega (arith, offset-later t n i k, offset-next t n (i + k)))
 
 module _ (t : List ℕ) (f : Facts) (v : judged t ≡ Valid f) where
   value-short : (i : ℕ) → i < valueCount t → u16At t (offset t (nodeCount t) i + 1) ≤ 255

@@ -42,6 +42,14 @@ unused-not-5 Sort.argument = refl
 no-five : (w : Warning) (b : Bool) → eqb (w .code) 5 ≡ false → not (eqb (w .code) 5 && b) ≡ true
 no-five w b e = ap (λ (c : Bool). not (c && b)) e
 
+-- a warning that is left out may be there or not
+new-left : (p : Warning → Bool) (s : Spot) (ws : List Warning) → p (record { code = 5; spot = s }) ≡ false → (b : Bool)
+    → keep p (warn-new 5 s ws b) ≡ keep p ws
+new-left p s ws e true = refl
+new-left p s ws e false =
+    keep-append p ws (record { code = 5; spot = s } ∷ [])
+    ∙ ap (λ (l : List Warning). keep p ws ++ l) (keep-not p (record { code = 5; spot = s }) [] e) ∙ append-nil (keep p ws)
+
 module _ (given known : ℕ → Bool) (more : (v : ℕ) → given v ≡ true → known v ≡ true) where
   -- a warning that the second list has too
   abbrev stays : Warning → Bool
@@ -73,10 +81,6 @@ module _ (given known : ℕ → Bool) (more : (v : ℕ) → given v ≡ true →
     abbrev here : Warning
     here = record { code = 5; spot = s }
 
-    new-known : known (s .value) ≡ true → (b : Bool) → keep stays (warn-new 5 s ws b) ≡ keep stays ws
-    new-known e true = refl
-    new-known e false = keep-append stays ws (here ∷ []) ∙ ap (λ (l : List Warning). keep stays ws ++ l) (keep-not stays here [] (ap not e)) ∙ append-nil (keep stays ws)
-
     new-unknown : known (s .value) ≡ false → (b : Bool) → keep stays (warn-new 5 s ws b) ≡ warn-new 5 s (keep stays ws) b
     new-unknown e true = refl
     new-unknown e false = keep-append stays ws (here ∷ []) ∙ ap (λ (l : List Warning). keep stays ws ++ l) (keep-so stays here [] (ap not e))
@@ -85,7 +89,7 @@ module _ (given known : ℕ → Bool) (more : (v : ℕ) → given v ≡ true →
         → keep stays (warn-if (not a) 5 s ws) ≡ warn-if (not b) 5 s (keep stays ws)
     step true p true q = refl
     step true p false q = clash (more (s .value) p) q
-    step false p true q = new-known q (warned s ws)
+    step false p true q = new-left stays s ws (ap not q) (warned s ws)
     step false p false q = new-unknown q (warned s ws) ∙ ap (warn-new 5 s (keep stays ws)) (sym (warned-kept s q ws))
 
   all-steps : (ss : List Spot) (ws : List Warning)
@@ -113,18 +117,12 @@ module _ (given known : ℕ → Bool) (more : (v : ℕ) → given v ≡ true →
 abbrev not-5 : Warning → Bool
 not-5 w = not (eqb (w .code) 5)
 
-five-left : (s : Spot) (ws : List Warning) (b : Bool) → keep not-5 (warn-new 5 s ws b) ≡ keep not-5 ws
-five-left s ws true = refl
-five-left s ws false =
-    keep-append not-5 ws (record { code = 5; spot = s } ∷ [])
-    ∙ ap (λ (l : List Warning). keep not-5 ws ++ l) (keep-not not-5 (record { code = 5; spot = s }) [] refl) ∙ append-nil (keep not-5 ws)
-
 fives-left : (p : Spot → Bool) (ss : List Spot) (ws : List Warning) → keep not-5 (warn-all 5 p ss ws) ≡ keep not-5 ws
 fives-left p [] ws = refl
 fives-left p (s ∷ ss) ws = fives-left p ss (warn-if (p s) 5 s ws) ∙ one (p s)
   where
     one : (b : Bool) → keep not-5 (warn-if b 5 s ws) ≡ keep not-5 ws
-    one true = five-left s ws (warned s ws)
+    one true = new-left not-5 s ws refl (warned s ws)
     one false = refl
 
 undefined-left : (g : Option (ℕ → Bool)) (c : Scope) (ws : List Warning) → Each (λ w. Not-5 (w .code)) ws → keep not-5 (undefined g c ws) ≡ ws

@@ -17,6 +17,8 @@ use Rattle.tree.specs.Releases.{Same-script, Given}
 use Rattle.tree.specs.code.Part.{Part}
 use Rattle.tree.specs.declared.Facts.{Facts}
 use Rattle.tree.specs.declared.Judged.the-variants.{Valid}
+use Rattle.tree.proofs.ValueLaws.{offset-later}
+use Rattle.tree.proofs.Link.{length-from}
 use Rattle.tree.proofs.Agree as Agree
 use Rattle.tree.proofs.Entries.{offset-from}
 use Rattle.tree.proofs.Whole.{sound, whole-part}
@@ -28,16 +30,7 @@ given-globals t g = ap (λ (b : Bool). unless b (is-global t)) (ne-eqb (globalCo
 pub ungiven-globals : (t : List ℕ) → globalCount t ≡ 65535 → globalsOf t ≡ none
 ungiven-globals t e = ap (λ (g : ℕ). unless (eqb g 65535) (is-global t)) e
 
-offsets-ascend : (t : List ℕ) (n i d : ℕ) → offset t n i ≤ offset t n (i + d)
-unfolding offset
-offsets-ascend t n i zero = let e : i + 0 ≡ i = omega arith in rw e (omega arith)
-offsets-ascend t n i (suc d) = let h = offsets-ascend t n i d in let e : i + suc d ≡ suc (i + d) = omega arith in rw e (omega (arith, h))
-
 -- ---- bytes that are the same, one by one
-
-length-bytes : (k : ℕ) (t : List ℕ) (o : ℕ) → length (bytesFrom k t o) ≡ k
-length-bytes zero t o = refl
-length-bytes (suc k) t o = ap suc (length-bytes k t (o + 1))
 
 byte-at : (k : ℕ) (t : List ℕ) (o j : ℕ) → j < k → getD (bytesFrom k t o) j 0 ≡ getD t (o + j) 0
 byte-at zero t o j h = absurd (omega arith)
@@ -49,8 +42,8 @@ module _ (t u : List ℕ) (s : Same-script t u) where
   pub same-globals-from : globalsFrom t ≡ globalsFrom u
   same-globals-from =
       let l = ap length (s .bytes) in
-      let a = length-bytes (globalsFrom t - nodeAt 0) t (nodeAt 0) in
-      let b = length-bytes (globalsFrom u - nodeAt 0) u (nodeAt 0) in
+      let a = length-from (globalsFrom t - nodeAt 0) t (nodeAt 0) in
+      let b = length-from (globalsFrom u - nodeAt 0) u (nodeAt 0) in
       let c = offset-from t (nodeCount t) (valueCount t) in
       let d = offset-from u (nodeCount u) (valueCount u) in
       omega (arith, l, a, b, c, d)
@@ -83,7 +76,7 @@ module _ (t u : List ℕ) (s : Same-script t u) where
   unfolding offset
   value-there k o v =
       let e : valueCount t ≡ suc (v .index) + k = omega (arith, v .rest) in
-      rw (v .place, e) (offsets-ascend t (nodeCount t) (suc (v .index)) k)
+      rw (v .place, e) (offset-later t (nodeCount t) (suc (v .index)) k)
 
   value-later : (k o : ℕ) → From-value (suc k) o → From-value k (after t o)
   unfolding offset

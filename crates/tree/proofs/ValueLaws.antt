@@ -1,5 +1,5 @@
 -- Laws of the value table. Assumes nothing.
-use Prim.Native.Nat.{ℕ, suc, _+_, _-_, _≤_, _<_}
+use Prim.Native.Nat.{ℕ, zero, suc, _+_, _-_, _≤_, _<_}
 use native.Mathlib.Omega.{arith}
 use native.Mathlib.Numerals.{add-one}
 use mathlib.Core.Path.{_≡_, refl}
@@ -18,6 +18,13 @@ offset-next t n i = rw add-one
 pub offset-start : (t : List ℕ) (n : ℕ) → offset t n 0 ≡ nodeAt n
 unfolding offset
 offset-start t n = refl
+
+-- an offset is no later than a later one
+pub offset-later : (t : List ℕ) (n i k : ℕ) → offset t n i ≤ offset t n (i + k)
+offset-later t n i zero = let e : i + 0 ≡ i = omega arith in rw e (omega arith)
+offset-later t n i (suc k) =
+    let e : i + suc k ≡ (i + k) + 1 = omega arith in
+    rw e (omega (arith, offset-later t n i k, offset-next t n (i + k)))
 
 module _ (t : List ℕ) (k i a b : ℕ) where
   pub less-lt : i < k → getD t (a + i) 0 < getD t (b + i) 0 → bytesLess (k - i) t (a + i) (b + i) ≡ true
