@@ -1,5 +1,7 @@
 // What a pass writes: records into a lent slice, and a tally of counts.
 // Every function here is total: a record for which there is no room is only counted, and a count stays at the largest usize.
+#![tactic(auto)]
+
 ghost use Rattle.std.specs.Prelude.{◌≡◌, ◌<◌};
 ghost use Rattle.tree.specs.Forest.{number_at, head_at};
 ghost use Rattle.rules.specs.Record.{plainly};
@@ -13,7 +15,7 @@ use tree::bytes::{begin_at, end_at, value_at};
 use tree::{Judged, Likeness};
 
 // What a record speaks of: nothing, a node, or why two keys are equal, which stands where a third span would.
-#[derive(Drop)]
+#[derive(Clone, Copy)]
 pub enum Place {
     Nowhere,
     Node(usize),
@@ -21,7 +23,7 @@ pub enum Place {
 }
 
 // A record: its code, the node that it is at, and what its value, second and third span come from.
-#[derive(Drop)]
+#[derive(Clone, Copy)]
 pub struct Note {
     pub code: u32,
     pub at: usize,
@@ -31,20 +33,20 @@ pub struct Note {
 }
 
 // How many records there are so far, and how many of each code.
-#[derive(Drop)]
+#[derive(Clone, Copy)]
 pub struct Sheet {
     pub count: usize,
     pub tally: [usize; CODES],
 }
 
-#[derive(Drop)]
+#[derive(Clone, Copy)]
 struct Ends {
     begin: u32,
     end: u32,
 }
 
 // A record's words: its code, its first span and value, its second and third span, its node and that of its second span.
-#[derive(Drop)]
+#[derive(Clone, Copy)]
 pub struct Words {
     pub code: u32,
     pub begin: u32,

@@ -1,18 +1,20 @@
 // The codes: severity and short name of each, after the Rust's `severity` and `short_name`.
+#![tactic(auto)]
+
 ghost use Rattle.std.specs.Prelude.{◌≡◌, ◌≤◌, length};
 ghost use Rattle.rules.specs.Codes.{disabled, short_name};
 ghost use Rattle.codes.specs.Named.{severity_of, named};
 
 use rules::LAST_CODE;
 
-#[derive(Drop)]
+#[derive(Clone, Copy)]
 pub enum EvalSeverity {
     Disabled,
     Warning,
 }
 
 // A short name: its bytes with zeros after them, and how many bytes it has. The longest has 26.
-#[derive(Drop)]
+#[derive(Clone, Copy)]
 pub struct ShortName {
     pub bytes: [u8; 26],
     pub length: usize,

@@ -13,7 +13,7 @@ use rules::{ALL_CODES, Outcome, Refusal, WIDTH};
 pub const ANSWER: usize = WIDTH * 11264;
 
 // Bytes for every text of a call with that much answer room, or every piece of a log, and for the last line.
-pub const PAGE: usize = 11 * ANSWER + log::PIECE;
+pub const PAGE: usize = 11 * ANSWER + sarif_log::PIECE;
 
 pub fn say(s: &[u8]) -> bool {
     if io::write_all(STDOUT_FILENO, s) {

@@ -1,5 +1,7 @@
 // The desk's program: answers the requests on standard input one after the other, each as soon as it is read; docs/DESK.md has the
 // framing. No contract can say what is read or written; what a write call is handed of a tree is required where it is handed (answers.rt).
+#![tactic(auto)]
+
 ghost use Rattle.desk.specs.Handed.{Holds};
 
 use crate::answers::{ANSWER, PAGE, least, say, serve};

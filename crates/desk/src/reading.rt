@@ -10,14 +10,14 @@ pub const LONGEST: usize = 149515;
 pub const ALL: usize = 4294967295;
 
 // The sizes of the rooms that a request asks to be lent.
-#[derive(Drop)]
+#[derive(Clone, Copy)]
 pub struct Rooms {
     pub work: usize,
     pub answer: usize,
     pub other: usize,
 }
 
-#[derive(Drop)]
+#[derive(Clone, Copy)]
 pub enum Word {
     Is(usize),
     Cut,
@@ -25,7 +25,7 @@ pub enum Word {
 }
 
 // An input: so many bytes, or more than any tree has, or less than was announced.
-#[derive(Drop)]
+#[derive(Clone, Copy)]
 pub enum Input {
     Whole(usize),
     Long,

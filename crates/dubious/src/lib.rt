@@ -1,6 +1,8 @@
 // Dubious (003), after dubious.rs: 16 duplicate key, then 17 identifier as statement.
 // Cost: linear in the nodes, and quadratic in the keys of one dict. Stack: 5 KiB while the numbers of the keys are
 // found, 1 KiB of it for as long as they are needed.
+#![tactic(auto)]
+
 ghost use Rattle.std.specs.Prelude.{◌≡◌, [], ◌+◌, ◌≤◌, ◌<◌, ◌&&◌};
 ghost use Rattle.tree.specs.Bytes.{size_at, value_at, pick};
 ghost use Rattle.tree.specs.Forest.{head_at, forest_of};

@@ -1,5 +1,7 @@
 // Whether a statement is a call of the identifier fail, after is_fail of names.rs and flow.rs. `fail`: the number of that name.
 // Bytes that are no tree are gone through too: every step goes on, and none past the end.
+#![tactic(auto)]
+
 ghost use Rattle.std.specs.Prelude.{◌≡◌, ◌&&◌, ◌+◌, ◌<◌, ◌≤◌, eqb};
 ghost use Rattle.tree.specs.Bytes.{kind_at, role_at, size_at, value_at};
 ghost use Rattle.tree.specs.Forest.{forest_of};

@@ -1,5 +1,7 @@
 // Flow (001), after flow.rs: five walks in order.
 // Cost: each walk visits a node a bounded number of times; the deepest calls follow the depth of the tree, 48.
+#![tactic(auto)]
+
 ghost use Rattle.std.specs.Prelude.{◌≡◌, eqb};
 ghost use Rattle.tree.specs.Forest.{forest_of};
 ghost use Rattle.tree.specs.Judge.{judged};

@@ -14,7 +14,7 @@ use tree::bytes::{kind_at, size_at};
 use tree::children::child_of;
 
 // What is written so far, and whether the code aborts this sequence early.
-#[derive(Drop)]
+#[derive(Clone, Copy)]
 struct Reached {
     sheet: Sheet,
     aborts: bool,

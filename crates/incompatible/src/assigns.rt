@@ -15,7 +15,7 @@ use tree::children::child_of;
 
 // By value number: the node after the one that first defined the name (0: none), and whether x = x was already free; and how often it
 // is free, last, since the pass is slower with it before the tables (docs/SPEED.md).
-#[derive(Drop)]
+#[derive(Clone, Copy)]
 pub(crate) struct Defined {
     first: [u16; 512],
     exported: [bool; 512],

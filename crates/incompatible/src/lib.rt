@@ -1,5 +1,7 @@
 // Incompatible (002), after incompatible.rs: 14 type check, then 15 duplicate top-level assignment.
 // Cost: linear in the nodes. Stack: 1.5 KiB for what is defined, by value number.
+#![tactic(auto)]
+
 ghost use Rattle.std.specs.Prelude.{◌≡◌};
 ghost use Rattle.tree.specs.Forest.{forest_of};
 ghost use Rattle.tree.specs.code.Part.{Part};

@@ -14,7 +14,7 @@ use tree::children::child_of;
 use tree::lookup::number_of;
 
 // The value numbers of the name type and of the five types' names, 65536 for a name that the file has not.
-#[derive(Drop)]
+#[derive(Clone, Copy)]
 pub(crate) struct Types {
     call: usize,
     boolean: usize,

@@ -1,4 +1,6 @@
 // Standard input, so many bytes at a time.
+#![tactic(auto)]
+
 ghost use Rattle.io.specs.Counts.{IsPrefixLen};
 
 use libc::STDIN_FILENO;

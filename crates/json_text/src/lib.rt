@@ -1,5 +1,7 @@
 // JSON's text, written into lent bytes. Every public function is total: `n` bytes were written before, a byte for which there is no
 // room is only counted, and the count stays at the largest usize. Lent no room, a function tells how many bytes it would write.
+#![tactic(auto)]
+
 ghost use Rattle.std.specs.Prelude.{◌≡◌, ◌∷◌, ◌++◌, ◌+◌, ◌*◌, ◌≤◌, ◌<◌, length, drop, get_or};
 ghost use Rattle.page.specs.Page.{Wrote};
 ghost use Rattle.json_text.specs.Text.{quoted as quoted-text};

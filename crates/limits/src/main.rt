@@ -1,6 +1,8 @@
 // Judges files at each limit of document 01 and one past it, and files that break one rule, or two at once.
 // Standard input has a case after the other: a label's length (a byte), the label, the file's length (32 bits), the file.
 // tools/limits.py writes them; stdout beside this program's src/ has what must be printed.
+#![tactic(auto)]
+
 use libc::STDOUT_FILENO;
 use tree::{Facts, Judged, Refusal};
 

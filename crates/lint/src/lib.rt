@@ -2,6 +2,8 @@
 // comes last. The file is judged once.
 // The three passes that need no work room are asked first how many records they have, each lent no room; names runs once, in
 // the room that those records leave; then each of the three is lent the part after the records before it.
+#![tactic(auto)]
+
 ghost use Rattle.std.specs.Prelude.{◌≡◌, ◌+◌, ◌-◌, ◌≤◌, length};
 ghost use Rattle.rules.specs.Joined.{widened};
 ghost use Rattle.rules.specs.Outcome.{in_full};

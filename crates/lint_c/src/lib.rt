@@ -1,6 +1,8 @@
 // The library for C and Rust: the joined call, its list as a SARIF log, each with the profile (02, §10) or without, and what a code is,
 // by numbers and slices alone.
 // include/yudronkha.h is what a caller reads.
+#![tactic(auto)]
+
 ghost use Rattle.std.specs.Prelude.{◌≡◌, [], ◌∷◌, ◌++◌, min, ◌≤◌, length, get_or, take};
 ghost use Rattle.tree.specs.declared.Mode.TheVariants.{Ordinary, Strict};
 ghost use Rattle.rules.specs.declared.Profile.TheVariants.{Off, On};

@@ -1,4 +1,6 @@
 // 01's listing program: the joined call, ordinary keys, on standard input with room for 2,048 records.
+#![tactic(auto)]
+
 ghost use Rattle.std.specs.Prelude.{◌≡◌, false};
 ghost use Rattle.tree.specs.declared.Mode.TheVariants.{Ordinary};
 ghost use Rattle.rules.specs.declared.Profile.TheVariants.{Off};

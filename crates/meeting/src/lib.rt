@@ -1,4 +1,6 @@
 // 02, §4: of nodes that share span and name, the one that the names walk meets first.
+#![tactic(auto)]
+
 ghost use Rattle.std.specs.Prelude.{◌≡◌, ◌<◌, ◌≤◌};
 ghost use Rattle.tree.specs.code.Part.{Part};
 ghost use Rattle.meeting.specs.Words.{bucket_of, emptied as emptiedWords, link_words, linked as linkedWords, touched, along as alongWords, meet_words, first_words};

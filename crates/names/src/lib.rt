@@ -1,5 +1,7 @@
 // Names (000), after names.rs: 1 unused load, 2 unused assign, 3 unused argument, 4 using unassigned, 5 using undefined,
 // 6 using maybe undefined.
+#![tactic(auto)]
+
 ghost use Rattle.std.specs.Prelude.{◌≡◌, map, ◌≤◌, ◌<◌, length, replicate};
 ghost use Rattle.tree.specs.Judge.{judged};
 ghost use Rattle.tree.specs.declared.Judged.TheVariants.{Valid};

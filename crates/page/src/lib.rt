@@ -1,5 +1,7 @@
 // Bytes written one after the other into lent room. Every function is total: `n` bytes were written before, a byte for which there is no
 // room is only counted, and the count stays at the largest usize. Lent no room, a function tells how many bytes it would write.
+#![tactic(auto)]
+
 ghost use Rattle.std.specs.Prelude.{◌≡◌, ◌∷◌, ◌++◌, ◌+◌, ◌<◌, length};
 ghost use Rattle.base.specs.Count.{one_more};
 ghost use Rattle.page.specs.Page.{Wrote};

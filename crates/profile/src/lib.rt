@@ -2,6 +2,8 @@
 // below anything but statement lists, 22 a parameter's name again.
 // Cost: linear in the nodes, and quadratic in the children of one def or lambda: each named parameter goes over its siblings up to the first of
 // its name.
+#![tactic(auto)]
+
 ghost use Rattle.std.specs.Prelude.{◌≡◌, [], ◌||◌, ◌+◌, ◌*◌, ◌≤◌, ◌<◌, length};
 ghost use Rattle.tree.specs.Bytes.{size_at, value_at, pick};
 ghost use Rattle.tree.specs.Forest.{head_at, forest_of};
@@ -25,7 +27,7 @@ use tree::{Facts, Judged, judge};
 
 // Of the nodes above some siblings: the nearest one's kind, 0 where none is above; whether a def is; whether the nearest one stands in a
 // loop; whether anything but a statement list is.
-#[derive(Drop)]
+#[derive(Clone, Copy)]
 struct Above {
     kind: usize,
     within: bool,

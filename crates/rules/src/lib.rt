@@ -1,4 +1,6 @@
 // What every pass answers, and how often x = x is free in a file. The rules themselves stand in specs/, as definitions.
+#![tactic(auto)]
+
 ghost use Rattle.std.specs.Prelude.{◌≡◌};
 ghost use Rattle.rules.specs.Incompatible.{allowance, free};
 ghost use Rattle.rules.specs.Outcome.{number_of, place_of};
@@ -16,7 +18,7 @@ pub const LAST_CODE: u32 = ALL_CODES as u32;
 pub const WORK_WORDS: usize = 32768;
 
 // How often x = x of a loaded name is free.
-#[derive(Drop)]
+#[derive(Clone, Copy)]
 pub enum Allowance {
     Once,
     Always,
@@ -45,7 +47,7 @@ impl Allowance {
 }
 
 // Whether the stricter profile is chosen (02, §10).
-#[derive(Drop)]
+#[derive(Clone, Copy)]
 pub enum Profile {
     Off,
     On,
@@ -53,7 +55,7 @@ pub enum Profile {
 
 // Why a call is refused: the tree, the work room, the answer room with the records that it needs, or another lent room with what it needs.
 // Specs' number_of and place_of give 01's numbers.
-#[derive(Drop)]
+#[derive(Clone, Copy)]
 pub enum Refusal {
     Tree(tree::Refusal),
     WorkRoom,
@@ -87,21 +89,21 @@ impl Refusal {
     }
 }
 
-#[derive(Drop)]
+#[derive(Clone, Copy)]
 pub enum Outcome {
     Listed(usize),
     Refused(Refusal),
 }
 
 // No enum holds an array, so the tally stands beside the outcome.
-#[derive(Drop)]
+#[derive(Clone, Copy)]
 pub struct Answer {
     pub outcome: Outcome,
     pub tally: [usize; CODES],
 }
 
 // An answer with the counts of all codes.
-#[derive(Drop)]
+#[derive(Clone, Copy)]
 pub struct FullAnswer {
     pub outcome: Outcome,
     pub tally: [usize; ALL_CODES],

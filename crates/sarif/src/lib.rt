@@ -1,5 +1,7 @@
 // The joined call, and its list as one SARIF log in lent bytes. The records are found in room of the call's own, so that a refusal,
 // 12 among them, writes neither a warning nor a byte of the log.
+#![tactic(auto)]
+
 ghost use Rattle.std.specs.Prelude.{◌≡◌, ◌++◌, ◌≤◌, length, take, drop};
 ghost use Rattle.rules.specs.Joined.{no_full_tally};
 ghost use Rattle.rules.specs.Afterwards.{records_in};
@@ -13,19 +15,19 @@ use tree::Mode;
 const ROOM: usize = WIDTH * 11264;
 
 // What was written: records into the answer room, bytes into the output room.
-#[derive(Drop)]
+#[derive(Clone, Copy)]
 pub struct Sizes {
     pub records: usize,
     pub bytes: usize,
 }
 
-#[derive(Drop)]
+#[derive(Clone, Copy)]
 pub enum Outcome {
     Logged(Sizes),
     Refused(Refusal),
 }
 
-#[derive(Drop)]
+#[derive(Clone, Copy)]
 pub struct Answer {
     pub outcome: Outcome,
     pub tally: [usize; ALL_CODES],

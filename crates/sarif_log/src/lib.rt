@@ -1,4 +1,6 @@
 // The log, piece by piece as specs/Log has it: each function writes a piece into the lent bytes after n others, and tells where it ends.
+#![tactic(auto)]
+
 ghost use Rattle.std.specs.Prelude.{◌≡◌, true, cond, ◌∷◌, ◌++◌, ◌+◌, ◌*◌, ◌-◌, ◌≤◌, eqb, ltb, length, drop};
 ghost use Rattle.std.proofs.Math.Option.{some};
 ghost use Rattle.tree.specs.Values.{value_from};

@@ -1,4 +1,6 @@
 // A scope: what is set, with what standing, and what using, setting, entering and leaving do.
+#![tactic(auto)]
+
 ghost use Rattle.std.specs.Prelude.{◌≡◌, ◌||◌, ◌+◌, ◌-◌, ◌<◌, ◌≤◌, length, get_or};
 ghost use Rattle.rules.specs.Names.{join_sure};
 ghost use Rattle.scope.specs.State.{held_of, no_entry, Fits};
@@ -17,7 +19,7 @@ pub mod table;
 
 // A name's standing; Held: the setting is among its name's spans. One enum has both, so that an entry is one byte and a scope,
 // which the walk hands on by value, half as many.
-#[derive(Drop)]
+#[derive(Clone, Copy)]
 pub enum Standing {
     Absent,
     Maybe,
@@ -27,7 +29,7 @@ pub enum Standing {
     HeldDefinitely,
 }
 
-#[derive(Drop)]
+#[derive(Clone, Copy)]
 pub enum Abort {
     Runs,
     Loop,
@@ -35,14 +37,14 @@ pub enum Abort {
 }
 
 // A setting.
-#[derive(Drop)]
+#[derive(Clone, Copy)]
 pub struct Entry {
     pub standing: Standing,
 }
 
 // entries: by place, the settings of this scope and of those outside it. From first up to settings, cant up to cants, loose
 // up to looses: the places of its settings, its can't-set and its unbound uses. warnings: how many so far, of all scopes.
-#[derive(Drop)]
+#[derive(Clone, Copy)]
 pub struct Scope {
     pub entries: [Entry; 1024],
     pub abort: Abort,

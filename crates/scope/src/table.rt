@@ -26,7 +26,7 @@ pub(crate) const LOOSE: usize = 6144;
 pub(crate) const ENDS: usize = 13312;
 
 // How two nodes are alike: by name, by name and span, or by these and the sort of setting.
-#[derive(Drop)]
+#[derive(Clone, Copy)]
 pub enum Like {
     Name,
     Spot,

@@ -2,6 +2,8 @@
 // Standard input: part and repeats (32 bits each), then files, each after its length (32 bits). Parts: 0 judging alone, 1 names,
 // 2 flow, 3 incompatible, 4 dubious, 5 the joined call, 6 the profile's pass, 7 the joined call with the profile. compare/speed is the same
 // over the Rust, but for 6 and 7.
+#![tactic(auto)]
+
 use libc::STDOUT_FILENO;
 use rules::{ALL_CODES, Answer, CODES, FullAnswer, Outcome, Profile, WIDTH, WORK_WORDS};
 use tree::Mode;

@@ -1,4 +1,6 @@
 // The text of the joined call, with the profile or without: 01's listing, in lent bytes, which a program hands to one write. A byte for which there is no room is only counted.
+#![tactic(auto)]
+
 ghost use Rattle.std.specs.Prelude.{◌≡◌, ◌∷◌, ◌++◌, ◌+◌, ◌*◌, ◌≤◌, ◌<◌, eqb, length, get_or, take, drop};
 ghost use Rattle.rules.specs.Record.{words, width};
 ghost use Rattle.rules.specs.Joined.{all_codes, codes_of};

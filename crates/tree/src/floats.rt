@@ -8,14 +8,14 @@ ghost use Rattle.tree.specs.code.Numbers.{valued, meant, Fit, Fits};
 use crate::Mode;
 
 // A whole number of any size, as its bytes are: the first of them as one number, then so many zero bytes.
-#[derive(Drop)]
+#[derive(Clone, Copy)]
 pub(crate) struct Spelled {
     pub(crate) head: usize,
     pub(crate) zeros: usize,
 }
 
 // What a float is: a whole number, or none that an integer could be.
-#[derive(Drop)]
+#[derive(Clone, Copy)]
 pub(crate) enum Float {
     Whole(Spelled),
     Other,

@@ -15,8 +15,8 @@ use crate::lookup::{few_values, starts};
 use crate::{Likeness, Mode};
 
 // Where a value stands against a whole number.
-#[derive(Drop)]
-enum Side {
+#[derive(Clone, Copy)]
+pub(crate) enum Side {
     Below,
     Equal,
     Above,

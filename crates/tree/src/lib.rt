@@ -2,6 +2,8 @@
 // Cost of judge: linear in the bytes, about 540 instructions a node. Stack: three arrays of 2 KiB (the parents, for 6 and
 // for 8, and the depths), 11 KiB in all with what the compiler adds.
 // What a pass asks of the values of a file that was judged is in lookup and keys, with its cost there.
+#![tactic(auto)]
+
 ghost use Rattle.std.specs.Prelude.{◌≡◌, ◌≤◌};
 ghost use Rattle.tree.specs.Judge.{number_of, place_of, marked, versioned, limits, judged};
 ghost use Rattle.tree.specs.Keys.{reason};
@@ -22,7 +24,7 @@ mod nodes;
 mod values;
 
 // What a valid file says of itself.
-#[derive(Drop)]
+#[derive(Clone, Copy)]
 pub struct Facts {
     pub version: usize,
     pub nodes: usize,
@@ -33,7 +35,7 @@ pub struct Facts {
 }
 
 // Why a file is refused, with the place where 01 gives one. Specs' number_of and place_of give 01's numbers.
-#[derive(Drop)]
+#[derive(Clone, Copy)]
 pub enum Refusal {
     Mark,
     Version,
@@ -83,21 +85,21 @@ impl Refusal {
 }
 
 // What a file is judged to be.
-#[derive(Drop)]
+#[derive(Clone, Copy)]
 pub enum Judged {
     Valid(Facts),
     Refused(Refusal),
 }
 
 // Key equality. Ordinary: whole floats of i32 are integers. Strict: whole floats of every size are.
-#[derive(Drop)]
+#[derive(Clone, Copy)]
 pub enum Mode {
     Ordinary,
     Strict,
 }
 
 // What the key test says of two keys. Specs' reason gives 02's numbers.
-#[derive(Drop)]
+#[derive(Clone, Copy)]
 pub enum Likeness {
     Different,
     SameForm,
