@@ -14,7 +14,8 @@ ALONE = {"search rules", "search needs"}
 
 
 def norm(s):
-    return s.replace("_", "-")
+    """A name whatever script spelled it."""
+    return re.sub(r"[-_]", "", re.sub(r"_lem$", "", s).lower())
 
 
 class Lts:
@@ -28,7 +29,7 @@ class Lts:
 
     def need(self, name):
         n = norm(name)
-        for c in (n, re.sub(r"^overflow-", "", n), re.sub(r"^(overflow|bounds|slice-bounds)-", "", n)):
+        for c in (n, re.sub(r"^overflow", "", n), re.sub(r"^(overflow|bounds|nonzero|slicebounds)", "", n), re.sub(r"^slicebounds", "part", n), re.sub(r"^arrayread", "elementcopyout", n)):
             if c in self.needs:
                 return self.needs[c]
         return None
@@ -37,31 +38,32 @@ class Lts:
         """The new path, without `c.`, of the old path (a list of fields) that starts at a place; None where it is not known."""
         path = list(path)
         while path and path[0] == "before":
-            i, p = self.places[place]
-            if p[1] is None:
-                return None
-            place = p[1]
             path = path[1:]
         if not path:
-            return ("PLACE", place)
-        i, p = self.places[place]
+            return None
         f = path[0]
-        if norm(p[2][0]) == norm(f) and p[2][0]:
+        at = place
+        while at is not None:
+            i, p = self.places[at]
+            if p[2][0] and norm(p[2][0]) == norm(f):
+                break
+            at = p[1]
+        if at is not None:
             arm = self.d["arms"][i]
             if arm:
                 for new, step, old in arm[2]:
                     if norm(step) == norm(f) and path[1 : 1 + len(old)] == old and old:
                         return [arm[0], new] + path[1 + len(old) :]
             step, rest = p[2][1], path[1:]
-            if rest[:1] == ["new"] and len(rest) > 1 and p[3] in self.d["params"]:
+            if rest[:1] in (["new"], ["auto"]) and len(rest) > 1 and p[3] in self.d["params"]:
                 ps = self.d["params"][p[3]]
                 k, j = 0, 1
                 while j < len(rest) and rest[j] == "1":
                     k, j = k + 1, j + 1
                 if j < len(rest) and rest[j] == "0" and k < len(ps):
-                    rest = ["new", ps[k]] + rest[j + 1 :]
+                    rest = [rest[0], ps[k]] + rest[j + 1 :]
             return [step] + rest
-        if p[1] is None or f in ("args", "ranges", "requires", "well-formed", "well_formed", "lifetimes"):
+        if f in ("args", "ranges", "requires", "well-formed", "well_formed", "lifetimes"):
             out = path
             text = "".join(" ." + x for x in out)
             for a, b in self.d["args"]:
@@ -102,7 +104,7 @@ def rewrite(lts, place, body, var, said):
         path = [x for x in m[1].split(".") if x]
         tail = []
         got = lts.chain(place, path)
-        if got is None or got[0] == "PLACE":
+        if got is None:
             said.append(f"{m[0]} at {place}")
             return m[0]
         return "c." + ".".join(got + tail)
@@ -141,6 +143,8 @@ def turned(path, names, module, folder):
                 if f == path:
                     heads += comment
                 for l in b.split("\n"):
+                    if re.match(r"(pub )?mod ", l):
+                        continue
                     m = re.match(r"use (\S+?)(?:\.\{(.*)\}| as (\S+))?$", l.strip())
                     if not m:
                         left.append("use? " + l)
@@ -201,7 +205,7 @@ def turned(path, names, module, folder):
             if need and lts:
                 got = lts.need(need[2].rstrip(")"))
                 if not got:
-                    if norm(need[2]) in {norm(x) for x in lts.d["settled"]} or re.match(r"(enum|known|told)", need[2]):
+                    if norm(need[2]) in {norm(x) for x in lts.d["settled"]} or re.match(r"(enum|known|told|slice-aggregate|array-read|slice-relend|nonzero)", need[2]):
                         continue
                     left.append(f"no need {need[2]} of {stem}")
                     continue

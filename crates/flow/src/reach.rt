@@ -34,7 +34,7 @@ fn stops(k: usize) -> bool
 }
 
 // The statement at node i.
-#[cycle(each_in_list_reachable_side_sides)]
+#[cycle(reaching)]
 fn reachable(t: &[u8], fail: usize, i: usize, out: &mut [u32], s: Sheet) -> Reached
     requires { Subtree t.now i }
     ensures { Walked out.old out.new s result.sheet result.aborts (reached_part (is_name fail) (head_at t.now i).kind (forest_of t.now (i + 1) (i + size_at t.now i)) (λ v. reached (is_name fail) v (forest_of t.now (i + 1) (i + size_at t.now i)))) }
@@ -85,7 +85,7 @@ fn unreachable(t: &[u8], aborts: bool, j: usize, e: usize, out: &mut [u32], s: S
 }
 
 // Statements in a row.
-#[cycle(each_in_list_reachable_side_sides)]
+#[cycle(reaching)]
 fn in_list(t: &[u8], fail: usize, i: usize, e: usize, out: &mut [u32], s: Sheet) -> Reached
     requires { Part t.now i e × (i ≤ e) }
     ensures { Walked out.old out.new s result.sheet result.aborts (reached (is_name fail) in-a-list (forest_of t.now i e)) }
@@ -106,7 +106,7 @@ fn in_list(t: &[u8], fail: usize, i: usize, e: usize, out: &mut [u32], s: Sheet)
 }
 
 // All the children, each by itself.
-#[cycle(each_in_list_reachable_side_sides)]
+#[cycle(reaching)]
 fn each(t: &[u8], fail: usize, i: usize, e: usize, out: &mut [u32], s: Sheet) -> Reached
     requires { Part t.now i e × (i ≤ e) }
     ensures { Walked out.old out.new s result.sheet result.aborts (reached (is_name fail) each-one (forest_of t.now i e)) }
@@ -125,7 +125,7 @@ fn each(t: &[u8], fail: usize, i: usize, e: usize, out: &mut [u32], s: Sheet) ->
 }
 
 // The first child of role r.
-#[cycle(each_in_list_reachable_side_sides)]
+#[cycle(reaching)]
 fn side(t: &[u8], fail: usize, r: usize, i: usize, e: usize, out: &mut [u32], s: Sheet) -> Reached
     requires { Part t.now i e × (i ≤ e) }
     ensures { Walked out.old out.new s result.sheet result.aborts (reached (is_name fail) (only r) (forest_of t.now i e)) }
@@ -149,7 +149,7 @@ fn both(a: bool, b: bool) -> bool
     false
 }
 
-#[cycle(each_in_list_reachable_side_sides)]
+#[cycle(reaching)]
 fn sides(t: &[u8], fail: usize, i: usize, e: usize, out: &mut [u32], s: Sheet) -> Reached
     requires { Part t.now i e × (i ≤ e) }
     ensures { Walked out.old out.new s result.sheet result.aborts (both_of (reached (is_name fail) (only 1) (forest_of t.now i e)) (reached (is_name fail) (only 2) (forest_of t.now i e))) }

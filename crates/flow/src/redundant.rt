@@ -39,7 +39,7 @@ fn bare(t: &[u8], loops: bool, i: usize, out: &mut [u32], s: Sheet) -> Sheet
 }
 
 // The statement at node i is last.
-#[cycle(check_last_sides)]
+#[cycle(checking)]
 fn check(t: &[u8], loops: bool, i: usize, out: &mut [u32], s: Sheet) -> Sheet
     requires { Subtree t.now i }
     ensures { page out.new result ≡ writes (page out.old s) (tail_part (head_at t.now i).kind loops (head_at t.now i) (forest_of t.now (i + 1) (i + size_at t.now i)) (λ v. tail loops v (forest_of t.now (i + 1) (i + size_at t.now i)))) }
@@ -64,7 +64,7 @@ fn check(t: &[u8], loops: bool, i: usize, out: &mut [u32], s: Sheet) -> Sheet
     s
 }
 
-#[cycle(check_last_sides)]
+#[cycle(checking)]
 fn sides(t: &[u8], loops: bool, i: usize, e: usize, out: &mut [u32], s: Sheet) -> Sheet
     requires { Part t.now i e × (i ≤ e) }
     ensures { page out.new result ≡ writes (page out.old s) (tail loops 1 (forest_of t.now i e) ++ tail loops 2 (forest_of t.now i e)) }
@@ -74,7 +74,7 @@ fn sides(t: &[u8], loops: bool, i: usize, e: usize, out: &mut [u32], s: Sheet) -
 }
 
 // The last of the siblings from i up to e that has role r.
-#[cycle(check_last_sides)]
+#[cycle(checking)]
 fn last(t: &[u8], loops: bool, r: usize, i: usize, e: usize, out: &mut [u32], s: Sheet) -> Sheet
     requires { Part t.now i e × (i ≤ e) }
     ensures { page out.new result ≡ writes (page out.old s) (tail loops r (forest_of t.now i e)) }

@@ -151,7 +151,7 @@ fn planned(row: usize, k: usize) -> usize
 }
 
 // The siblings from node i up to e, by what is asked.
-#[cycle(below_node_step_visit)]
+#[cycle(visiting)]
 pub(crate) fn visit(t: &[u8], a: usize, i: usize, e: usize, n: usize, w: &mut [u16])
     requires { Part t.now i e }
     ensures { w.new ≡ meets t.now n w.old (asked a (forest_of t.now i e)) }
@@ -166,7 +166,7 @@ pub(crate) fn visit(t: &[u8], a: usize, i: usize, e: usize, n: usize, w: &mut [u
 }
 
 // Node c, where it is asked for.
-#[cycle(below_node_step_visit)]
+#[cycle(visiting)]
 fn step(t: &[u8], a: usize, c: usize, n: usize, w: &mut [u16])
     requires { Subtree t.now c }
     ensures { w.new ≡ meets t.now n w.old (at (step_of (ask_of a)) t.now c) }
@@ -177,7 +177,7 @@ fn step(t: &[u8], a: usize, c: usize, n: usize, w: &mut [u16])
 }
 
 // Node c by its row.
-#[cycle(below_node_step_visit)]
+#[cycle(visiting)]
 fn node(t: &[u8], r: usize, c: usize, n: usize, w: &mut [u16])
     requires { Subtree t.now c × (r < 55) }
     ensures { w.new ≡ meets t.now n w.old (at (run (plan r)) t.now c) }
@@ -190,7 +190,7 @@ fn node(t: &[u8], r: usize, c: usize, n: usize, w: &mut [u16])
 }
 
 // What is asked of the children of node c, or the node itself.
-#[cycle(below_node_step_visit)]
+#[cycle(visiting)]
 fn below(t: &[u8], a: usize, c: usize, n: usize, w: &mut [u16])
     requires { Subtree t.now c }
     ensures { w.new ≡ meets t.now n w.old (at (belowOf a) t.now c) }

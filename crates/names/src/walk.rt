@@ -25,7 +25,7 @@ fn wanted(t: &[u8], c: usize, r: usize) -> bool
 }
 
 // The nodes of role r from i up to e.
-#[cycle(assign_block_body_bound_branch_clause_comp_cond_def_down_eval_expr_gets_lambda_later_loops_modify_one_over_rest_ret_side_step_stmt_turn_visit)]
+#[cycle(walking)]
 pub fn visit(
     t: &[u8],
     i: usize,
@@ -49,7 +49,7 @@ pub fn visit(
 }
 
 // Node c, where it is wanted.
-#[cycle(assign_block_body_bound_branch_clause_comp_cond_def_down_eval_expr_gets_lambda_later_loops_modify_one_over_rest_ret_side_step_stmt_turn_visit)]
+#[cycle(walking)]
 fn step(t: &[u8], c: usize, r: usize, d: usize, f: usize, w: &mut [u16], s: Scope) -> Scope
     requires { Node t.now c d × (d ≤ c) × Fits w.old s }
     ensures { Goes t.now d (pick (wanted_of t.now r c) (node_of t.now f c) skip) w.old s w.new result }
@@ -61,7 +61,7 @@ fn step(t: &[u8], c: usize, r: usize, d: usize, f: usize, w: &mut [u16], s: Scop
 }
 
 // The children of role r of node c.
-#[cycle(assign_block_body_bound_branch_clause_comp_cond_def_down_eval_expr_gets_lambda_later_loops_modify_one_over_rest_ret_side_step_stmt_turn_visit)]
+#[cycle(walking)]
 fn down(t: &[u8], c: usize, r: usize, d: usize, f: usize, w: &mut [u16], s: Scope) -> Scope
     requires { Node t.now c d × Fits w.old s }
     ensures { Goes t.now d (down_of t.now f (want_of r) c) w.old s w.new result }
@@ -71,7 +71,7 @@ fn down(t: &[u8], c: usize, r: usize, d: usize, f: usize, w: &mut [u16], s: Scop
 }
 
 // One node.
-#[cycle(assign_block_body_bound_branch_clause_comp_cond_def_down_eval_expr_gets_lambda_later_loops_modify_one_over_rest_ret_side_step_stmt_turn_visit)]
+#[cycle(walking)]
 fn one(t: &[u8], c: usize, d: usize, f: usize, w: &mut [u16], s: Scope) -> Scope
     requires { Node t.now c d × (d ≤ c) × Fits w.old s }
     ensures { Goes t.now d (node_of t.now f c) w.old s w.new result }
@@ -87,7 +87,7 @@ fn one(t: &[u8], c: usize, d: usize, f: usize, w: &mut [u16], s: Scope) -> Scope
 }
 
 // Statements with no statement below: break, continue and pass too.
-#[cycle(assign_block_body_bound_branch_clause_comp_cond_def_down_eval_expr_gets_lambda_later_loops_modify_one_over_rest_ret_side_step_stmt_turn_visit)]
+#[cycle(walking)]
 fn stmt(t: &[u8], c: usize, k: usize, d: usize, f: usize, w: &mut [u16], s: Scope) -> Scope
     requires { (k ≡ kind_at t.now c) × (k < 8) × Node t.now c d × Fits w.old s }
     ensures { Goes t.now d (node_of t.now f c) w.old s w.new result }
@@ -113,7 +113,7 @@ fn stmt(t: &[u8], c: usize, k: usize, d: usize, f: usize, w: &mut [u16], s: Scop
     down(t, c, 9, d, f, w, s)
 }
 
-#[cycle(assign_block_body_bound_branch_clause_comp_cond_def_down_eval_expr_gets_lambda_later_loops_modify_one_over_rest_ret_side_step_stmt_turn_visit)]
+#[cycle(walking)]
 fn ret(t: &[u8], c: usize, d: usize, f: usize, w: &mut [u16], s: Scope) -> Scope
     requires { (kind_at t.now c ≡ 4) × Node t.now c d × Fits w.old s }
     ensures { Goes t.now d (node_of t.now f c) w.old s w.new result }
@@ -123,7 +123,7 @@ fn ret(t: &[u8], c: usize, d: usize, f: usize, w: &mut [u16], s: Scope) -> Scope
 }
 
 // A statement that is an expression ends the function if it calls fail.
-#[cycle(assign_block_body_bound_branch_clause_comp_cond_def_down_eval_expr_gets_lambda_later_loops_modify_one_over_rest_ret_side_step_stmt_turn_visit)]
+#[cycle(walking)]
 fn eval(t: &[u8], c: usize, d: usize, f: usize, w: &mut [u16], s: Scope) -> Scope
     requires { (kind_at t.now c ≡ 5) × Node t.now c d × Fits w.old s }
     ensures { Goes t.now d (node_of t.now f c) w.old s w.new result }
@@ -136,7 +136,7 @@ fn eval(t: &[u8], c: usize, d: usize, f: usize, w: &mut [u16], s: Scope) -> Scop
     a
 }
 
-#[cycle(assign_block_body_bound_branch_clause_comp_cond_def_down_eval_expr_gets_lambda_later_loops_modify_one_over_rest_ret_side_step_stmt_turn_visit)]
+#[cycle(walking)]
 fn gets(t: &[u8], c: usize, d: usize, f: usize, w: &mut [u16], s: Scope) -> Scope
     requires { (kind_at t.now c ≡ 6) × Node t.now c d × Fits w.old s }
     ensures { Goes t.now d (node_of t.now f c) w.old s w.new result }
@@ -146,7 +146,7 @@ fn gets(t: &[u8], c: usize, d: usize, f: usize, w: &mut [u16], s: Scope) -> Scop
     assign(t, c, d, f, w, b)
 }
 
-#[cycle(assign_block_body_bound_branch_clause_comp_cond_def_down_eval_expr_gets_lambda_later_loops_modify_one_over_rest_ret_side_step_stmt_turn_visit)]
+#[cycle(walking)]
 fn modify(t: &[u8], c: usize, d: usize, f: usize, w: &mut [u16], s: Scope) -> Scope
     requires { (kind_at t.now c ≡ 7) × Node t.now c d × Fits w.old s }
     ensures { Goes t.now d (node_of t.now f c) w.old s w.new result }
@@ -158,7 +158,7 @@ fn modify(t: &[u8], c: usize, d: usize, f: usize, w: &mut [u16], s: Scope) -> Sc
 }
 
 // The target of node c: its expressions, then its names.
-#[cycle(assign_block_body_bound_branch_clause_comp_cond_def_down_eval_expr_gets_lambda_later_loops_modify_one_over_rest_ret_side_step_stmt_turn_visit)]
+#[cycle(walking)]
 fn assign(t: &[u8], c: usize, d: usize, f: usize, w: &mut [u16], s: Scope) -> Scope
     requires { Node t.now c d × Fits w.old s }
     ensures { Goes t.now d (down_of t.now f (want_of 5) c ⨟ bind_of t.now 5 c) w.old s w.new result }
@@ -169,7 +169,7 @@ fn assign(t: &[u8], c: usize, d: usize, f: usize, w: &mut [u16], s: Scope) -> Sc
 }
 
 // Lists, if, if_else, for, def, load.
-#[cycle(assign_block_body_bound_branch_clause_comp_cond_def_down_eval_expr_gets_lambda_later_loops_modify_one_over_rest_ret_side_step_stmt_turn_visit)]
+#[cycle(walking)]
 fn block(t: &[u8], c: usize, k: usize, d: usize, f: usize, w: &mut [u16], s: Scope) -> Scope
     requires { (k ≡ kind_at t.now c) × (8 ≤ k) × (k < 14) × (d ≤ c) × Node t.now c d × Fits w.old s }
     ensures { Goes t.now d (node_of t.now f c) w.old s w.new result }
@@ -190,7 +190,7 @@ fn block(t: &[u8], c: usize, k: usize, d: usize, f: usize, w: &mut [u16], s: Sco
 }
 
 // An if, an if-else: what is visited first has role 4.
-#[cycle(assign_block_body_bound_branch_clause_comp_cond_def_down_eval_expr_gets_lambda_later_loops_modify_one_over_rest_ret_side_step_stmt_turn_visit)]
+#[cycle(walking)]
 fn cond(t: &[u8], c: usize, k: usize, d: usize, f: usize, w: &mut [u16], s: Scope) -> Scope
     requires { (k ≡ kind_at t.now c) × (9 ≤ k) × (k < 11) × Node t.now c d × Fits w.old s }
     ensures { Goes t.now d (node_of t.now f c) w.old s w.new result }
@@ -203,7 +203,7 @@ fn cond(t: &[u8], c: usize, k: usize, d: usize, f: usize, w: &mut [u16], s: Scop
 }
 
 // An if: the second side is empty.
-#[cycle(assign_block_body_bound_branch_clause_comp_cond_def_down_eval_expr_gets_lambda_later_loops_modify_one_over_rest_ret_side_step_stmt_turn_visit)]
+#[cycle(walking)]
 fn side(t: &[u8], c: usize, d: usize, f: usize, w: &mut [u16], s: Scope) -> Scope
     requires { Node t.now c d × Fits w.old s }
     ensures { Goes t.now d (branch (down_of t.now f (want_of 1) c) skip) w.old s w.new result }
@@ -214,7 +214,7 @@ fn side(t: &[u8], c: usize, d: usize, f: usize, w: &mut [u16], s: Scope) -> Scop
 }
 
 // Both sides start from the same standings and abort.
-#[cycle(assign_block_body_bound_branch_clause_comp_cond_def_down_eval_expr_gets_lambda_later_loops_modify_one_over_rest_ret_side_step_stmt_turn_visit)]
+#[cycle(walking)]
 fn branch(t: &[u8], c: usize, d: usize, f: usize, w: &mut [u16], s: Scope) -> Scope
     requires { Node t.now c d × Fits w.old s }
     ensures { Goes t.now d (branch (down_of t.now f (want_of 1) c) (down_of t.now f (want_of 2) c)) w.old s w.new result }
@@ -225,7 +225,7 @@ fn branch(t: &[u8], c: usize, d: usize, f: usize, w: &mut [u16], s: Scope) -> Sc
 }
 
 // A for: what it goes over, then its rounds, two, or one from the sixth on. Not in cond, whose sides would add to a for's stack.
-#[cycle(assign_block_body_bound_branch_clause_comp_cond_def_down_eval_expr_gets_lambda_later_loops_modify_one_over_rest_ret_side_step_stmt_turn_visit)]
+#[cycle(walking)]
 fn loops(t: &[u8], c: usize, d: usize, f: usize, w: &mut [u16], s: Scope) -> Scope
     requires { (kind_at t.now c ≡ 11) × (d ≤ c) × Node t.now c d × Fits w.old s }
     ensures { Goes t.now d (node_of t.now f c) w.old s w.new result }
@@ -240,7 +240,7 @@ fn loops(t: &[u8], c: usize, d: usize, f: usize, w: &mut [u16], s: Scope) -> Sco
     a
 }
 
-#[cycle(assign_block_body_bound_branch_clause_comp_cond_def_down_eval_expr_gets_lambda_later_loops_modify_one_over_rest_ret_side_step_stmt_turn_visit)]
+#[cycle(walking)]
 fn turn(t: &[u8], c: usize, d: usize, f: usize, w: &mut [u16], s: Scope) -> Scope
     requires { Node t.now c d × Fits w.old s }
     ensures { Turns t.now d (down_of t.now f (want_of 5) c ⨟ bind_of t.now 5 c ⨟ down_of t.now f (want_of 1) c) w.old s w.new result }
@@ -252,7 +252,7 @@ fn turn(t: &[u8], c: usize, d: usize, f: usize, w: &mut [u16], s: Scope) -> Scop
     j.unlooped()
 }
 
-#[cycle(assign_block_body_bound_branch_clause_comp_cond_def_down_eval_expr_gets_lambda_later_loops_modify_one_over_rest_ret_side_step_stmt_turn_visit)]
+#[cycle(walking)]
 fn def(t: &[u8], c: usize, d: usize, f: usize, w: &mut [u16], s: Scope) -> Scope
     requires { (kind_at t.now c ≡ 12) × Node t.now c d × Fits w.old s }
     ensures { Goes t.now d (node_of t.now f c) w.old s w.new result }
@@ -264,7 +264,7 @@ fn def(t: &[u8], c: usize, d: usize, f: usize, w: &mut [u16], s: Scope) -> Scope
 }
 
 // The scope of a def or a lambda.
-#[cycle(assign_block_body_bound_branch_clause_comp_cond_def_down_eval_expr_gets_lambda_later_loops_modify_one_over_rest_ret_side_step_stmt_turn_visit)]
+#[cycle(walking)]
 fn body(t: &[u8], c: usize, d: usize, f: usize, w: &mut [u16], s: Scope) -> Scope
     requires { Node t.now c d × Fits w.old s }
     ensures { Goes t.now d (scope (bind_of t.now 0 c ⨟ down_of t.now f (want_of 1) c)) w.old s w.new result }
@@ -274,7 +274,7 @@ fn body(t: &[u8], c: usize, d: usize, f: usize, w: &mut [u16], s: Scope) -> Scop
     b.leave(t, w, s)
 }
 
-#[cycle(assign_block_body_bound_branch_clause_comp_cond_def_down_eval_expr_gets_lambda_later_loops_modify_one_over_rest_ret_side_step_stmt_turn_visit)]
+#[cycle(walking)]
 fn lambda(t: &[u8], c: usize, d: usize, f: usize, w: &mut [u16], s: Scope) -> Scope
     requires { (kind_at t.now c ≡ 24) × Node t.now c d × Fits w.old s }
     ensures { Goes t.now d (node_of t.now f c) w.old s w.new result }
@@ -283,7 +283,7 @@ fn lambda(t: &[u8], c: usize, d: usize, f: usize, w: &mut [u16], s: Scope) -> Sc
     body(t, c, d, f, w, a)
 }
 
-#[cycle(assign_block_body_bound_branch_clause_comp_cond_def_down_eval_expr_gets_lambda_later_loops_modify_one_over_rest_ret_side_step_stmt_turn_visit)]
+#[cycle(walking)]
 fn expr(t: &[u8], c: usize, k: usize, d: usize, f: usize, w: &mut [u16], s: Scope) -> Scope
     requires { (k ≡ kind_at t.now c) × (14 ≤ k) × Node t.now c d × Fits w.old s }
     ensures { Goes t.now d (node_of t.now f c) w.old s w.new result }
@@ -303,7 +303,7 @@ fn expr(t: &[u8], c: usize, k: usize, d: usize, f: usize, w: &mut [u16], s: Scop
     down(t, c, 9, d, f, w, s)
 }
 
-#[cycle(assign_block_body_bound_branch_clause_comp_cond_def_down_eval_expr_gets_lambda_later_loops_modify_one_over_rest_ret_side_step_stmt_turn_visit)]
+#[cycle(walking)]
 fn comp(t: &[u8], c: usize, d: usize, f: usize, w: &mut [u16], s: Scope) -> Scope
     requires { Node t.now c d × Fits w.old s }
     ensures { Goes t.now d (over_of t.now f c ⨟ scope (bound_of t.now f c ⨟ down_of t.now f (want_of 8) c ⨟ down_of t.now f (want_of 4) c)) w.old s w.new result }
@@ -317,7 +317,7 @@ fn comp(t: &[u8], c: usize, d: usize, f: usize, w: &mut [u16], s: Scope) -> Scop
 }
 
 // The over of the comprehension c's first clause, x.
-#[cycle(assign_block_body_bound_branch_clause_comp_cond_def_down_eval_expr_gets_lambda_later_loops_modify_one_over_rest_ret_side_step_stmt_turn_visit)]
+#[cycle(walking)]
 fn over(t: &[u8], c: usize, x: usize, d: usize, f: usize, w: &mut [u16], s: Scope) -> Scope
     requires { (x ≡ kid_of t.now 0 c) × Node t.now c d × Fits w.old s }
     ensures { Goes t.now d (over_of t.now f c) w.old s w.new result }
@@ -330,7 +330,7 @@ fn over(t: &[u8], c: usize, x: usize, d: usize, f: usize, w: &mut [u16], s: Scop
 }
 
 // What of the comprehension c comes after its first over, in clause x.
-#[cycle(assign_block_body_bound_branch_clause_comp_cond_def_down_eval_expr_gets_lambda_later_loops_modify_one_over_rest_ret_side_step_stmt_turn_visit)]
+#[cycle(walking)]
 fn rest(t: &[u8], c: usize, x: usize, d: usize, f: usize, w: &mut [u16], s: Scope) -> Scope
     requires { (x ≡ kid_of t.now 0 c) × Node t.now c d × Fits w.old s }
     ensures { Goes t.now d (bound_of t.now f c ⨟ down_of t.now f (want_of 8) c ⨟ down_of t.now f (want_of 4) c) w.old s w.new result }
@@ -341,7 +341,7 @@ fn rest(t: &[u8], c: usize, x: usize, d: usize, f: usize, w: &mut [u16], s: Scop
 }
 
 // The first target, and the later clauses.
-#[cycle(assign_block_body_bound_branch_clause_comp_cond_def_down_eval_expr_gets_lambda_later_loops_modify_one_over_rest_ret_side_step_stmt_turn_visit)]
+#[cycle(walking)]
 fn bound(t: &[u8], c: usize, x: usize, d: usize, f: usize, w: &mut [u16], s: Scope) -> Scope
     requires { (x ≡ kid_of t.now 0 c) × Node t.now c d × Fits w.old s }
     ensures { Goes t.now d (bound_of t.now f c) w.old s w.new result }
@@ -355,7 +355,7 @@ fn bound(t: &[u8], c: usize, x: usize, d: usize, f: usize, w: &mut [u16], s: Sco
 }
 
 // The clauses of the comprehension c after the first, x.
-#[cycle(assign_block_body_bound_branch_clause_comp_cond_def_down_eval_expr_gets_lambda_later_loops_modify_one_over_rest_ret_side_step_stmt_turn_visit)]
+#[cycle(walking)]
 fn later(t: &[u8], c: usize, x: usize, d: usize, f: usize, w: &mut [u16], s: Scope) -> Scope
     requires { (c < x) × (x < c + size_at t.now c) × Node t.now c d × Fits w.old s }
     ensures { Goes t.now d (clauses_of t.now f (x + size_at t.now x) (c + size_at t.now c)) w.old s w.new result }
@@ -370,7 +370,7 @@ fn later(t: &[u8], c: usize, x: usize, d: usize, f: usize, w: &mut [u16], s: Sco
     z
 }
 
-#[cycle(assign_block_body_bound_branch_clause_comp_cond_def_down_eval_expr_gets_lambda_later_loops_modify_one_over_rest_ret_side_step_stmt_turn_visit)]
+#[cycle(walking)]
 fn clause(t: &[u8], i: usize, d: usize, f: usize, w: &mut [u16], s: Scope) -> Scope
     requires { Node t.now i d × Fits w.old s }
     ensures { Goes t.now d (clause_of t.now f i) w.old s w.new result }
@@ -383,7 +383,7 @@ fn clause(t: &[u8], i: usize, d: usize, f: usize, w: &mut [u16], s: Scope) -> Sc
 }
 
 // The names that the children of role r of node c bind: used where `uses`, else set.
-#[cycle(bind_bind_one)]
+#[cycle(binding)]
 fn bind(t: &[u8], c: usize, r: usize, uses: bool, w: &mut [u16], s: Scope) -> Scope
     requires { Node t.now c 0 × Fits w.old s }
     ensures { (d : ℕ) → Goes t.now d (pick uses (use_of t.now r c) (bind_of t.now r c)) w.old s w.new result }
@@ -398,7 +398,7 @@ fn bind(t: &[u8], c: usize, r: usize, uses: bool, w: &mut [u16], s: Scope) -> Sc
     z
 }
 
-#[cycle(bind_bind_one)]
+#[cycle(binding)]
 fn bind_one(t: &[u8], i: usize, r: usize, uses: bool, w: &mut [u16], s: Scope) -> Scope
     requires { Node t.now i 0 × Fits w.old s }
     ensures { (d : ℕ) → Goes t.now d (pick (eqb r (role_at t.now i)) (name_node uses t.now i) skip) w.old s w.new result }

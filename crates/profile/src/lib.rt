@@ -190,7 +190,7 @@ fn own(t: &[u8], a: Above, i: usize, j: usize, out: &mut [u32], n: usize) -> usi
 }
 
 // Node j with what is below it.
-#[cycle(node_nodes)]
+#[cycle(noding)]
 fn node(t: &[u8], a: Above, i: usize, j: usize, out: &mut [u32], n: usize) -> usize
     requires { Part t.now i j × Subtree t.now j }
     ensures { untallied out.new result ≡ writes (untallied out.old n) (node_walk a (siblings (forest_of t.now i j)) (head_at t.now j) (forest_of t.now (j + 1) (j + size_at t.now j))) }
@@ -201,7 +201,7 @@ fn node(t: &[u8], a: Above, i: usize, j: usize, out: &mut [u32], n: usize) -> us
 }
 
 // Siblings from node i up to e, each with what is below it.
-#[cycle(node_nodes)]
+#[cycle(noding)]
 fn nodes(t: &[u8], a: Above, i: usize, e: usize, out: &mut [u32], n: usize) -> usize
     requires { Part t.now i e × (i ≤ e) }
     ensures { untallied out.new result ≡ writes (untallied out.old n) (walk a [] (forest_of t.now i e)) }

@@ -1,0 +1,20 @@
+use mathlib.Core.Path.{◌∙◌}
+use Rattle.tree.specs.Forest.{spot_at}
+use Rattle.answer.specs.Note.{value_of}
+use borrow.Author.Rules.{rules}
+use Rattle.answer.proofs.value_of.Reads as reads
+use Rattle.answer.proofs.word.Reads as word-reads
+use Rattle.tree.proofs.bytes.value_at.Reads as value-at-reads
+use Rattle.answer.proofs.value_of.Goals as goal
+
+pub returns-in-Nowhere : goal.returns-in-Nowhere
+unfolding value_of
+returns-in-Nowhere c = rw c.in-Nowhere.is
+
+pub returns-in-Node : goal.returns-in-Node
+unfolding value_of spot_at
+returns-in-Node c = rw c.in-Node.is (c.word.ensures ∙ c.value_at.ensures.0)
+
+pub returns-in-Reason : goal.returns-in-Reason
+unfolding value_of
+returns-in-Reason c = rw c.in-Reason.is

@@ -1,0 +1,36 @@
+use native.Mathlib.Omega.{arith}
+use Prim.Native.Nat.{◌-◌}
+use Rattle.tree.specs.Forest.{forest_of}
+use Rattle.tree.specs.code.Part.{Part}
+use Rattle.tree.proofs.Laws.{later, first, sized}
+use Rattle.rules.specs.Visit.{each}
+use Rattle.rules.specs.Dubious.{idle_at}
+use Rattle.answer.proofs.Flat.{Going, going, going_on, gone_end}
+use Rattle.answer.proofs.Each.{each_next, each_past}
+use Rattle.dubious.proofs.identifier_as_statement.Reads as reads
+use Rattle.dubious.proofs.stmt.Reads as stmt-reads
+use Rattle.dubious.proofs.identifier_as_statement.Goals as goal
+
+pub loop-i-init : goal.loop-i-init
+loop-i-init c = (c.requires, going _ _ _)
+
+pub stmt-r-requires : goal.stmt-r-requires
+stmt-r-requires c =
+    record { part = first c.loop-i.invariant.0 c.loop-i-test.true; some = sized c.loop-i.invariant.0 c.loop-i-test.true }
+
+pub overflow_add-i : goal.overflow_add-i
+overflow_add-i c = omega (arith, c.loop-i.invariant.0.few, c.loop-i-test.true)
+
+pub loop-i-smaller : goal.loop-i-smaller
+loop-i-smaller c = omega (arith, c.loop-i-test.true)
+
+pub loop-i-preserved : goal.loop-i-preserved
+loop-i-preserved c =
+    (later c.loop-i.invariant.0 (omega arith), going_on c.loop-i.invariant.1 _ _ _ _ c.stmt-r.ensures (each_next idle_at c.loop-i.invariant.0 c.loop-i-test.true))
+
+pub shape_of-out : goal.shape_of-out
+shape_of-out c = c.loop-i.invariant.1.long
+
+pub returns : goal.returns
+returns c =
+    gone_end c.loop-i.invariant.1 (each_past idle_at c.args.t.now c.loop-i.i c.args.n c.loop-i-test.false)

@@ -1,0 +1,18 @@
+use native.Mathlib.Omega.{arith}
+use Prim.Native.Nat.{◌-◌}
+use Rattle.tree.specs.Forest.{forest_of}
+use Rattle.tree.specs.code.Part.{Part}
+use Rattle.tree.proofs.Laws.{later, first, sized}
+use Rattle.rules.specs.Visit.{each}
+use Rattle.rules.specs.Dubious.{idle_at}
+use Rattle.answer.proofs.Flat.{Going, going, going_on, gone_end}
+use Rattle.answer.proofs.Each.{each_next, each_past}
+use Rattle.dubious.proofs.identifier_as_statement.Reads as reads
+use Rattle.dubious.proofs.stmt.Reads as stmt-reads
+use Rattle.dubious.proofs.identifier_as_statement.Given as goal
+
+abbrev pub invariant-loop-i : goal.invariant-loop-i
+invariant-loop-i l = Part l.t l.i l.n × Going l.initial.out l.initial.r (each idle_at (forest_of l.t 0 l.n)) l.out l.r (each idle_at (forest_of l.t l.i l.n))
+
+abbrev pub decreases-loop-i : goal.decreases-loop-i
+decreases-loop-i l = l.n - l.i

@@ -1,0 +1,18 @@
+use mathlib.Core.Path.{sym, ◌∙◌}
+use borrow.Author.Rules.{rules}
+use Rattle.dubious.proofs.later_key.Reads as reads
+use Rattle.dubious.proofs.likeness.Reads as likeness-reads
+use Rattle.dubious.proofs.to_key.Reads as to-key-reads
+use Rattle.dubious.proofs.later_key.Goals as goal
+
+pub returns-in-Different : goal.returns-in-Different
+returns-in-Different c = rw (sym c.to_key.ensures ∙ c.if-to_key.true, sym c.likeness-l.ensures ∙ c.in-Different.is)
+
+pub returns-in-SameForm : goal.returns-in-SameForm
+returns-in-SameForm c = rw (sym c.to_key.ensures ∙ c.if-to_key.true, sym c.likeness-l.ensures ∙ c.in-SameForm.is)
+
+pub returns-in-SameNumber : goal.returns-in-SameNumber
+returns-in-SameNumber c = rw (sym c.to_key.ensures ∙ c.if-to_key.true, sym c.likeness-l.ensures ∙ c.in-SameNumber.is)
+
+pub returns : goal.returns
+returns c = rw (sym c.to_key.ensures ∙ c.if-to_key.false)

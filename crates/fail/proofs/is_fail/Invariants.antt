@@ -1,0 +1,14 @@
+use native.Mathlib.Omega.{arith}
+use borrow.Author.Rules.{rules}
+use Prim.Native.Nat.{◌-◌}
+use mathlib.Core.Path.{refl}
+use lib.Dec.{eqb}
+use Rattle.rules.specs.Order.{fail_called}
+use Rattle.fail.proofs.Laws.{Gone, called_end, called_here, called_next}
+use Rattle.fail.proofs.is_fail.Given as goal
+
+abbrev pub invariant-loop-j : goal.invariant-loop-j
+invariant-loop-j l = Gone (fail_called (λ v. eqb v l.fail)) l.t l.i l.e l.j
+
+abbrev pub decreases-loop-j : goal.decreases-loop-j
+decreases-loop-j l = l.e - l.j

@@ -1,0 +1,33 @@
+use native.Mathlib.Omega.{arith}
+use borrow.Author.Rules.{rules}
+use Prim.Native.Nat.{◌-◌}
+use mathlib.Core.Path.{◌≡◌, refl, sym, ◌∙◌}
+use Rattle.tree.specs.Forest.{forest_of}
+use Rattle.tree.specs.code.Part.{Part}
+use Rattle.tree.proofs.Laws.{sized, later}
+use Rattle.rules.specs.Flow.{effect}
+use Rattle.flow.specs.Walks.{is_text}
+use Rattle.flow.proofs.Steps.{effect_past, effect_hit, effect_miss, inside_after}
+use Rattle.flow.proofs.effect.has_effect.Goals as goal
+
+pub loop-j-init : goal.loop-j-init
+loop-j-init c = (c.requires, refl)
+
+pub returns-then-acts : goal.returns-then-acts
+returns-then-acts c =
+    effect_hit c.args.strings.now c.loop-j.invariant.0 c.loop-j-test.true (sym c.acts.ensures ∙ c.if-acts.true) ∙ sym c.loop-j.invariant.1
+
+pub inward-j-requires : goal.inward-j-requires
+inward-j-requires c = omega (arith, c.loop-j.invariant.0.few, c.loop-j-test.true)
+
+pub loop-j-smaller : goal.loop-j-smaller
+loop-j-smaller c =
+    omega (arith, inside_after c.args.t.now c.loop-j.j (sized c.loop-j.invariant.0 c.loop-j-test.true), c.inward-j.ensures, c.loop-j-test.true)
+
+pub loop-j-preserved : goal.loop-j-preserved
+loop-j-preserved c =
+    rw c.inward-j.ensures (later c.loop-j.invariant.0 (omega (arith, inside_after c.args.t.now c.loop-j.j (sized c.loop-j.invariant.0 c.loop-j-test.true))), c.loop-j.invariant.1 ∙ effect_miss c.args.strings.now c.loop-j.invariant.0 c.loop-j-test.true (sym c.acts.ensures ∙ c.if-acts.false))
+
+pub returns : goal.returns
+returns c =
+    effect_past (is_text c.args.strings.now) c.args.t.now c.loop-j.j c.args.e c.loop-j-test.false ∙ sym c.loop-j.invariant.1

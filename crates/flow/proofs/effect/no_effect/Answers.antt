@@ -1,0 +1,36 @@
+use native.Mathlib.Omega.{arith}
+use Prim.Native.Nat.{◌-◌}
+use Rattle.tree.specs.Forest.{forest_of}
+use Rattle.tree.specs.code.Part.{Part}
+use Rattle.tree.proofs.Laws.{sized, later, whole_at}
+use Rattle.rules.specs.Flow.{effect_walk}
+use Rattle.answer.proofs.Flat.{Going, going, going_on, gone_end}
+use Rattle.flow.specs.Walks.{is_text}
+use Rattle.flow.proofs.TidyLaws.{tidy_valid}
+use Rattle.flow.proofs.Steps.{stated_valid, idle_past, idle_next, past_after}
+use Rattle.flow.proofs.effect.no_effect.Goals as goal
+
+pub loop-i-init : goal.loop-i-init
+loop-i-init c = ((tidy_valid c.requires).part, going _ _ _)
+
+pub idle-r-requires : goal.idle-r-requires
+idle-r-requires c =
+    (whole_at c.loop-i.invariant.0 c.loop-i-test.true, stated_valid c.requires c.loop-i.i c.loop-i-test.true)
+
+pub next-i-requires : goal.next-i-requires
+next-i-requires c = omega (arith, c.loop-i.invariant.0.few, c.loop-i-test.true)
+
+pub loop-i-smaller : goal.loop-i-smaller
+loop-i-smaller c =
+    omega (arith, past_after 5 c.args.t.now c.loop-i.i (sized c.loop-i.invariant.0 c.loop-i-test.true), c.next-i.ensures, c.loop-i-test.true)
+
+pub loop-i-preserved : goal.loop-i-preserved
+loop-i-preserved c =
+    rw c.next-i.ensures (later c.loop-i.invariant.0 (omega (arith, past_after 5 c.args.t.now c.loop-i.i (sized c.loop-i.invariant.0 c.loop-i-test.true))), going_on c.loop-i.invariant.1 _ _ _ _ c.idle-r.ensures (idle_next c.args.strings.now c.loop-i.invariant.0 c.loop-i-test.true))
+
+pub shape_of-out : goal.shape_of-out
+shape_of-out c = c.loop-i.invariant.1.long
+
+pub returns : goal.returns
+returns c =
+    gone_end c.loop-i.invariant.1 (idle_past c.args.strings.now c.args.t.now c.loop-i.i c.args.n c.loop-i-test.false)

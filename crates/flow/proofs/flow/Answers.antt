@@ -1,0 +1,19 @@
+use mathlib.Core.Path.{sym, ap, ◌∙◌}
+use Rattle.rules.specs.declared.Outcome.TheVariants.{Refused}
+use Rattle.rules.specs.Flow.{flow_list}
+use Rattle.answer.specs.Refuse.{refusal_of}
+use Rattle.answer.proofs.Whole.{unfit_done}
+use Rattle.rules.proofs.Answered.{no_counts}
+use borrow.Author.Rules.{rules}
+use Rattle.flow.proofs.flow.Goals as goal
+
+pub returns-in_default : goal.returns-in_default
+returns-in_default c =
+    let t = c.args.t.now in
+    unfit_done t _ (flow_list t) c.args.out.now c.args.tally c.refused.result
+    (sym c.judge-j.ensures ∙ c.in_default.is)
+    (c.refused.ensures.0 ∙ ap Refused (c.refusal_of.ensures ∙ ap refusal_of c.judge-j.ensures))
+    (c.refused.ensures.1 ∙ no_counts c.args.tally (search rules))
+
+pub lint_valid-requires : goal.lint_valid-requires
+lint_valid-requires c = sym c.judge-j.ensures ∙ c.in-Valid.is

@@ -1,0 +1,10 @@
+use Rattle.tree.proofs.Laws.{whole_kids}
+use native.Mathlib.Omega.{arith}
+use Prim.Native.Nat.{◌-◌}
+use Rattle.flow.proofs.ReturnsLaws.{has_child}
+use borrow.Author.Rules.{rules}
+use Rattle.flow.proofs.returns.is_valued.Goals as goal
+
+pub returns : goal.returns
+returns c =
+    rw (c.child_of.ensures, c.size_at.ensures.0) (has_child 4 (whole_kids c.requires) (omega (arith, c.requires.some)))

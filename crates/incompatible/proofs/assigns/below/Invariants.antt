@@ -1,0 +1,21 @@
+use native.Mathlib.Omega.{arith}
+use borrow.Author.Rules.{rules}
+use Prim.Native.Nat.{◌-◌}
+use Rattle.tree.specs.Bytes.{size_at}
+use Rattle.tree.specs.code.Part.{Part}
+use Rattle.tree.specs.Forest.{head_at, forest_of}
+use Rattle.rules.specs.Incompatible.{defined_names}
+use Rattle.incompatible.specs.Ground.{Low}
+use Rattle.incompatible.specs.Ledger.{is_several}
+use Rattle.incompatible.proofs.Told.{Telling, telling, telling_on, telling_end}
+use Rattle.incompatible.proofs.Deeds.{fewer, going_part, below_step, named_past}
+use Rattle.incompatible.proofs.assigns.below.Reads as reads
+use Rattle.incompatible.proofs.assigns.below_at.Reads as below-at-reads
+use Rattle.incompatible.proofs.assigns.below_next.Reads as below-next-reads
+use Rattle.incompatible.proofs.assigns.below.Given as goal
+
+abbrev pub invariant-loop-j : goal.invariant-loop-j
+invariant-loop-j l = Part l.t l.j l.e × Low l.t l.e × Telling l.t l.initial.out l.initial.r (defined_names 0 (forest_of l.t l.i l.e)) l.out l.r (defined_names 0 (forest_of l.t l.j l.e))
+
+abbrev pub decreases-loop-j : goal.decreases-loop-j
+decreases-loop-j l = l.e - l.j

@@ -1,0 +1,20 @@
+use native.Mathlib.Omega.{arith}
+use Prim.Native.Nat.{◌-◌}
+use Rattle.tree.specs.Bytes.{kind_at}
+use Rattle.tree.specs.Forest.{forest_of}
+use Rattle.tree.specs.code.Part.{Part}
+use Rattle.tree.proofs.Laws.{first, sized, ended}
+use Rattle.rules.specs.Incompatible.{deeds}
+use Rattle.incompatible.specs.Ground.{Low}
+use Rattle.incompatible.specs.Ledger.{goes_in, top_of}
+use Rattle.incompatible.proofs.Told.{Telling, telling, telling_on, telling_end}
+use Rattle.incompatible.proofs.Deeds.{fewer, going_part, deeds_step, deeds_past}
+use borrow.Author.Rules.{rules}
+use Rattle.incompatible.proofs.assigns.stmts.Reads as reads
+use Rattle.incompatible.proofs.assigns.stmts.Given as goal
+
+abbrev pub invariant-loop-i : goal.invariant-loop-i
+invariant-loop-i l = Part l.t l.i l.n × Low l.t l.n × Telling l.t l.initial.out l.initial.r (deeds (forest_of l.t 0 l.n)) l.out l.r (deeds (forest_of l.t l.i l.n))
+
+abbrev pub decreases-loop-i : goal.decreases-loop-i
+decreases-loop-i l = l.n - l.i

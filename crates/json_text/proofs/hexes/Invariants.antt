@@ -1,0 +1,15 @@
+use Prim.Native.Nat.{◌+◌, ◌-◌, ◌*◌, ◌≤◌}
+use native.Mathlib.Omega.{arith}
+use mathlib.Core.Path.{◌≡◌, refl}
+use lib.ListN.{length, get_or, drop, drop_of_length-le}
+use borrow.Author.Rules.{rules}
+use Rattle.json_text.specs.Escape.{hex, hexes}
+use Rattle.page.proofs.Going.{Going, going_first, going_next, going_last}
+use Rattle.json_text.proofs.Pieces.{hexes_next, hexes_end}
+use Rattle.json_text.proofs.hexes.Given as goal
+
+abbrev pub invariant-loop-i : goal.invariant-loop-i
+invariant-loop-i l = (l.i ≤ length l.s) × (length l.out ≡ length l.initial.out) × Going l.initial.out l.n l.out l.at (2 * l.i) (hexes (drop l.i l.s)) (hexes l.s)
+
+abbrev pub decreases-loop-i : goal.decreases-loop-i
+decreases-loop-i l = length l.s - l.i

@@ -1,0 +1,11 @@
+-- What is called, from the log's call and what is told of its answer. Assumes nothing.
+use Rattle.lint_c.proofs.Laws.{logged}
+use borrow.Author.Rules.{rules}
+use Rattle.lint_c.proofs.log_call.Goals as goal
+
+pub returns : goal.returns
+returns c =
+    let a = c.args in
+    let s = c.sarif-a in
+    let t = c.tell_log in
+    logged a.chosen a.mode a.t.now a.work.now a.out.now a.output.now a.report.now s.result s.new.1.1.1.0 s.new.1.1.1.1.0 s.new.1.1.1.1.1.0 t.new.1.1.0 t.result s.ensures t.ensures.0 t.ensures.1

@@ -1,0 +1,20 @@
+use Prim.Native.Nat.{ℕ, ◌≤◌}
+use native.Mathlib.Omega.{arith}
+use lib.ListN.{length, replicate}
+use Rattle.rules.specs.Outcome.{work_words}
+use Rattle.names.proofs.FirstMet.{walk_records}
+use mathlib.Core.Path.{◌∙◌, ap}
+use borrow.Author.Rules.{rules}
+use Rattle.names.proofs.lint.Goals as goal
+
+pub first_nodes-requires : goal.first_nodes-requires
+first_nodes-requires c = (c.requires.0.part, c.walked-r.ensures.0, omega (arith, c.requires.1, c.walked-r.auto.w))
+
+pub returns : goal.returns
+returns c =
+    let walked = c.walked-r in
+    let long : work_words ≤ length walked.new.1.1.0 = omega (arith, c.requires.1, walked.auto.1.1.0) in
+    let e = walk_records c.args.t.now c.args.n c.requires.0.part walked.new.1.1.0 walked.result walked.ensures.0 long walked.ensures.1 in (
+      rw e at (rw c.first_nodes.ensures at c.answer_of-a.ensures),
+      c.clear.ensures ∙ ap (λ (n : ℕ). replicate n 0) (c.first_nodes.auto.w ∙ walked.auto.1.1.0),
+    )

@@ -1,0 +1,79 @@
+-- `bind` and `bind-one` meet their contracts. Assumes nothing.
+use Prim.Native.Nat.{ℕ, ◌+◌, ◌*◌, ◌-◌, ◌<◌}
+use borrow.Author.Rules.{rules}
+use borrow.Author.Tests.{eq-eqb, ne_eqb}
+use native.Mathlib.Omega.{arith}
+use mathlib.Core.Path.{◌≡◌, refl, sym, ap, ◌∙◌}
+use mathlib.Core.List.{List}
+use lib.ListN.{length}
+use Rattle.tree.specs.Bytes.{pick, size_at, role_at}
+use Rattle.tree.specs.code.Part.{Part}
+use Rattle.tree.proofs.Laws.{rest, sized, ended}
+use Rattle.scope.specs.State.{Fits}
+use Rattle.names.specs.Walk.{Goes, names_in, bind_of, use_of}
+use Rattle.scope.specs.declared.Scope.{Scope}
+use Rattle.names.proofs.Going.{skips, goes_as, goes_fits}
+use Rattle.names.proofs.Parts.{node_in_part, node_few, name_several, name_name, name_other}
+use Rattle.names.proofs.Rows.{names_on, names_last, kids_as, names_as, pick_true, pick_false, name_so}
+use Rattle.names.proofs.walk.bind.Reads as bind
+use Rattle.names.proofs.walk.bind_one.Reads as bind-one
+use Rattle.names.proofs.walk.binds_name.Reads as binds-name-reads
+use Rattle.names.proofs.walk.ident.Reads as ident-reads
+use Rattle.tree.proofs.bytes.kind_at.Reads as kind-at-reads
+use Rattle.tree.proofs.bytes.role_at.Reads as role-at-reads
+use Rattle.tree.proofs.bytes.size_at.Reads as size-at-reads
+use Rattle.names.proofs.walk.+binding.Goals as goal
+
+pub bind-overflow_add-e : goal.bind-overflow_add-e
+bind-overflow_add-e t c = omega (arith, c.size_at.ensures.0, node_few c.requires.1.0, c.requires.1.0.part.few)
+
+pub bind-overflow_add-i : goal.bind-overflow_add-i
+bind-overflow_add-i t c = omega (arith, node_few c.requires.1.0)
+
+pub bind-loop-i-init : goal.bind-loop-i-init
+bind-loop-i-init t c =
+    (omega arith, ap (λ (z : ℕ). c.args.c + z) c.size_at.ensures.0, kids_as c.args.t.now c.args.c _ c.size_at.ensures.0 c.requires.1.0, c.requires.1.1, refl, λ d v y g. goes_as (names_as c.args.t.now c.args.c _ c.size_at.ensures.0 c.args.r c.args.uses) g)
+
+pub bind-bind_one-z-requires : goal.bind-bind_one-z-requires
+bind-bind_one-z-requires t c =
+    let p = c.loop-i.invariant.2 in let n = ended p c.loop-i-test.true in (omega (arith, c.requires.0, c.loop-i.invariant.0, c.loop-i.invariant.1), (node_in_part p c.loop-i-test.true (omega arith), c.loop-i.invariant.3))
+
+pub bind-overflow_add-i-in-loop-i : goal.bind-overflow_add-i-in-loop-i
+bind-overflow_add-i-in-loop-i t c =
+    omega (arith, c.size_at-i.ensures.0, ended c.loop-i.invariant.2 c.loop-i-test.true, c.loop-i.invariant.2.few)
+
+pub bind-loop-i-smaller : goal.bind-loop-i-smaller
+bind-loop-i-smaller t c =
+    omega (arith, c.size_at-i.ensures.0, ended c.loop-i.invariant.2 c.loop-i-test.true, sized c.loop-i.invariant.2 c.loop-i-test.true, c.loop-i-test.true)
+
+pub bind-loop-i-preserved : goal.bind-loop-i-preserved
+bind-loop-i-preserved t c =
+    let p = c.loop-i.invariant.2 in
+    let g = c.bind_one-z.ensures in
+    rw c.size_at-i.ensures.0 (omega (arith, c.loop-i.invariant.0), c.loop-i.invariant.1, rest p c.loop-i-test.true, goes_fits (g 0), omega arith, λ d v y h. c.loop-i.invariant.5 d v y (names_on c.args.r c.args.uses p c.loop-i-test.true (g d) h))
+
+pub bind-returns : goal.bind-returns
+bind-returns t c =
+    λ d. c.loop-i.invariant.5 d _ _ (names_last c.args.r c.args.uses c.loop-i.i _ c.loop-i-test.false c.loop-i.invariant.3)
+
+pub bind_one-returns-then-role_at-r : goal.bind_one-returns-then-role_at-r
+bind_one-returns-then-role_at-r t c =
+    λ d. pick_false _ (ne_eqb c.args.r (role_at c.args.t.now c.args.i) (λ z. c.if-role_at-r.true (c.role_at.ensures.0 ∙ sym z))) _ _ (skips c.requires.1.1)
+
+pub bind_one-bind-requires : goal.bind_one-bind-requires
+bind_one-bind-requires t c = (omega (arith, c.requires.0), (c.requires.1.0, c.requires.1.1))
+
+pub bind_one-returns-then-k-eq41 : goal.bind_one-returns-then-k-eq41
+bind_one-returns-then-k-eq41 t c =
+    λ d. pick_true _ (eq-eqb c.args.r (role_at c.args.t.now c.args.i) (sym c.if-role_at-r.false ∙ c.role_at.ensures.0)) _ _ (goes_as (name_several c.args.t.now c.args.i c.args.uses (sym c.kind_at-k.ensures.0 ∙ c.if-k-eq41.true)) (c.bind.ensures d))
+
+pub bind_one-ident-requires : goal.bind_one-ident-requires
+bind_one-ident-requires t c = (c.requires.1.0, c.requires.1.1)
+
+pub bind_one-returns-then-binds_name : goal.bind_one-returns-then-binds_name
+bind_one-returns-then-binds_name t c =
+    λ d. pick_true _ (eq-eqb c.args.r (role_at c.args.t.now c.args.i) (sym c.if-role_at-r.false ∙ c.role_at.ensures.0)) _ _ (goes_as (name_name c.args.t.now c.args.i c.args.uses (name_so c.kind_at-k.ensures.0 c.binds_name.ensures c.if-binds_name.true)) (c.ident.ensures d))
+
+pub bind_one-returns : goal.bind_one-returns
+bind_one-returns t c =
+    λ d. pick_true _ (eq-eqb c.args.r (role_at c.args.t.now c.args.i) (sym c.if-role_at-r.false ∙ c.role_at.ensures.0)) _ _ (goes_as (name_other c.args.t.now c.args.i c.args.uses (λ z. c.if-k-eq41.false (c.kind_at-k.ensures.0 ∙ z)) (name_so c.kind_at-k.ensures.0 c.binds_name.ensures c.if-binds_name.false)) (skips c.requires.1.1))

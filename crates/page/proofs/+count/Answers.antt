@@ -1,0 +1,19 @@
+-- A number of one digit, and one of more: the rest of it is smaller. Assumes nothing.
+use native.Mathlib.Omega.{arith}
+use borrow.Author.Rules.{rules}
+use Rattle.page.proofs.Decimals.{small_wrote, large_wrote}
+use Prim.Native.Nat.{ℕ, ◌<◌}
+use Rattle.page.proofs.count.Reads as count
+use Rattle.page.proofs.digit.Reads as digit-reads
+use Rattle.page.proofs.put.Reads as put_reads
+use Rattle.page.proofs.+count.Goals as goal
+
+pub returns-then-x-lt10 : goal.returns-then-x-lt10
+returns-then-x-lt10 t c = small_wrote c.args.x c.if-x-lt10.true c.digit.ensures c.put.ensures
+
+pub count-at-requires : goal.count-at-requires
+count-at-requires t c = omega arith
+
+pub returns : goal.returns
+returns t c =
+    large_wrote c.args.x c.if-x-lt10.false (omega arith) c.digit-2.ensures c.count-at.ensures c.put-2.ensures

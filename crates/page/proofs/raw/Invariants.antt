@@ -1,0 +1,14 @@
+use Prim.Native.Nat.{◌+◌, ◌-◌, ◌≤◌}
+use native.Mathlib.Omega.{arith}
+use mathlib.Core.Path.{◌≡◌, refl}
+use mathlib.Core.List.{[], ◌∷◌}
+use lib.ListN.{length, get_or, drop, drop_of_length-le}
+use borrow.Author.Rules.{rules}
+use Rattle.page.proofs.Going.{Going, going_first, going_next, going_last, bytes_next}
+use Rattle.page.proofs.raw.Given as goal
+
+abbrev pub invariant-loop-i : goal.invariant-loop-i
+invariant-loop-i l = (l.i ≤ length l.s) × (length l.out ≡ length l.initial.out) × Going l.initial.out l.n l.out l.at l.i (drop l.i l.s) l.s
+
+abbrev pub decreases-loop-i : goal.decreases-loop-i
+decreases-loop-i l = length l.s - l.i

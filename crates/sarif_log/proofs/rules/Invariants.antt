@@ -1,0 +1,17 @@
+use Rattle.sarif_log.proofs.Turns.{Turning, turning_first, turning_next, turning_last, rules_left, rules_all, rules_next, rules_none}
+use Rattle.json_text.specs.Text.{lines}
+use Rattle.sarif_log.specs.Log.{rules}
+use lib.ListN.{length}
+use mathlib.Core.Bool.{true}
+use borrow.Author.Rules.{rules}
+use Prim.Native.Nat.{◌+◌, ◌*◌, ◌-◌, ◌≤◌, suc}
+use mathlib.Core.Path.{◌≡◌, refl}
+use native.Mathlib.Omega.{arith}
+use Rattle.rules.specs.Joined.{all_codes}
+use Rattle.sarif_log.proofs.rules.Given as goal
+
+abbrev pub invariant-loop-code : goal.invariant-loop-code
+invariant-loop-code l = (1 ≤ l.code) × (l.code ≤ (suc all_codes)) × (length l.tally ≡ all_codes) × (length l.out ≡ length l.initial.out) × Turning l.initial.out l.n l.out l.at (260 * (l.code - 1)) (lines true (rules 1 l.tally)) (rules_left l.tally l.code)
+
+abbrev pub decreases-loop-code : goal.decreases-loop-code
+decreases-loop-code l = (suc all_codes) - l.code

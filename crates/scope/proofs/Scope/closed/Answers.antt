@@ -1,0 +1,21 @@
+use Prim.Native.Nat.{◌-◌}
+use mathlib.Core.Path.{◌≡◌, sym, ◌∙◌}
+use mathlib.Core.Bool.{true, false}
+use Rattle.scope.specs.Words.{closed_of, farewell_of, late_of, unknown_of}
+use lib.Dec.{eqb}
+use borrow.Author.Tests.{not-true, not-false}
+use Rattle.tree.specs.Bytes.{global_count}
+use borrow.Author.Rules.{rules}
+use Rattle.scope.proofs.Scope.closed.Goals as goal
+
+pub returns-then-globals_given : goal.returns-then-globals_given
+unfolding closed_of farewell_of late_of unknown_of
+returns-then-globals_given c =
+    let e : eqb (global_count c.args.t.now) 65535 ≡ false = not-true _ (sym c.globals_given.ensures ∙ c.if-globals_given.true) in
+    (c.warn_uses.ensures.0 ∙ rw (e, c.idle-m.ensures.0, c.idle-m.ensures.1, c.warn_uses-n.ensures.0, c.warn_uses-n.ensures.1), c.warn_uses.ensures.1 ∙ rw (e, c.idle-m.ensures.0, c.idle-m.ensures.1, c.warn_uses-n.ensures.0, c.warn_uses-n.ensures.1), c.warn_uses.ensures.2)
+
+pub returns : goal.returns
+unfolding closed_of farewell_of late_of unknown_of
+returns c =
+    let e : eqb (global_count c.args.t.now) 65535 ≡ true = not-false _ (sym c.globals_given.ensures ∙ c.if-globals_given.false) in
+    (c.idle-m.ensures.0 ∙ rw (e, c.warn_uses-n.ensures.0, c.warn_uses-n.ensures.1), c.idle-m.ensures.1 ∙ rw (e, c.warn_uses-n.ensures.0, c.warn_uses-n.ensures.1), c.idle-m.ensures.2)

@@ -1,0 +1,17 @@
+use Rattle.scope.specs.declared.Scope.{Scope}
+use Rattle.scope.specs.declared.Entry.{Entry}
+use Prim.Native.Nat.{◌-◌}
+use native.Mathlib.Omega.{arith}
+use mathlib.Core.Path.{◌≡◌, refl, sym, ap, ◌∙◌}
+use mathlib.Core.List.{List}
+use lib.ListN.{set}
+use Rattle.scope.specs.Words.{merges_in, with_entries, merged_scope}
+use Rattle.scope.proofs.Steps.{merges_end, merges_next}
+use borrow.Author.Rules.{rules}
+use Rattle.scope.proofs.Scope.merged.Given as goal
+
+abbrev pub invariant-loop-j : goal.invariant-loop-j
+invariant-loop-j l = (l.n ≡ l.initial.self.settings) × (l.self ≡ with_entries l.self.entries l.initial.self) × (merges_in l.a l.b l.one.entries l.initial.self.entries l.initial.j (l.n - l.initial.j) ≡ merges_in l.a l.b l.one.entries l.self.entries l.j (l.n - l.j))
+
+abbrev pub decreases-loop-j : goal.decreases-loop-j
+decreases-loop-j l = l.n - l.j

@@ -1,0 +1,14 @@
+use Prim.Native.Nat.{◌-◌, ◌≤◌}
+use native.Mathlib.Omega.{arith}
+use mathlib.Core.Path.{◌≡◌, refl, sym, ap, ◌∙◌}
+use lib.ListN.{length}
+use Rattle.scope.specs.Words.{Lines, passes_in, passed_of}
+use Rattle.scope.proofs.Steps.{passes_end, passes_next}
+use borrow.Author.Rules.{rules}
+use Rattle.scope.proofs.Scope.passed.Given as goal
+
+abbrev pub invariant-loop-k : goal.invariant-loop-k
+invariant-loop-k l = (l.z ≤ l.e) × (l.e ≤ l.k) × (length l.w ≡ length l.initial.w) × (passes_in l.t l.a l.b l.z l.initial.w l.initial.e l.initial.k (l.m - l.initial.k) ≡ passes_in l.t l.a l.b l.z l.w l.e l.k (l.m - l.k))
+
+abbrev pub decreases-loop-k : goal.decreases-loop-k
+decreases-loop-k l = l.m - l.k

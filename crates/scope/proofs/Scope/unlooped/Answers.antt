@@ -1,0 +1,6 @@
+use Prim.Native.Nat.{◌-◌}
+use borrow.Author.Rules.{rules}
+use Rattle.scope.proofs.Scope.unlooped.Goals as goal
+
+pub returns : goal.returns
+returns c = rw (c.stop.ensures, c.unloop.ensures)

@@ -1,0 +1,15 @@
+use Prim.Native.Nat.{◌-◌, ◌≤◌}
+use native.Mathlib.Omega.{arith}
+use mathlib.Core.Path.{◌≡◌, refl, sym, ◌∙◌}
+use mathlib.Core.Bool.{true, false}
+use Rattle.scope.specs.State.{node_in}
+use Rattle.scope.specs.Words.{alike_at, find_in}
+use Rattle.scope.proofs.Find.{find_hit, find_miss, find_end}
+use borrow.Author.Rules.{rules}
+use Rattle.scope.proofs.table.find.Given as goal
+
+abbrev pub invariant-loop-j : goal.invariant-loop-j
+invariant-loop-j l = (l.a ≤ l.j) × (l.j ≤ l.b) × (find_in l.t l.w l.how l.a l.b l.i ≡ find_in l.t l.w l.how l.j l.b l.i)
+
+abbrev pub decreases-loop-j : goal.decreases-loop-j
+decreases-loop-j l = l.b - l.j

@@ -1,0 +1,17 @@
+use Prim.Native.Nat.{◌+◌, ◌*◌, ◌-◌, ◌≤◌}
+use native.Mathlib.Omega.{arith}
+use mathlib.Core.Path.{◌≡◌, refl}
+use lib.Dec.{eqb}
+use lib.ListN.{length, get_or, drop}
+use Rattle.page.proofs.Going.{Going, going_first, going_next, going_last}
+use Rattle.text.specs.Text.{line}
+use Rattle.text.specs.Pieces.{ended}
+use Rattle.text.proofs.Lines.{line_next, line_end}
+use borrow.Author.Rules.{rules}
+use Rattle.text.proofs.counts.Given as goal
+
+abbrev pub invariant-loop-k : goal.invariant-loop-k
+invariant-loop-k l = (l.k ≤ length l.ns) × (length l.out ≡ length l.initial.out) × Going l.initial.out l.n l.out l.at (21 * l.k) (line (drop l.k l.ns)) (line l.ns)
+
+abbrev pub decreases-loop-k : goal.decreases-loop-k
+decreases-loop-k l = length l.ns - l.k

@@ -1,0 +1,19 @@
+use Prim.Native.Nat.{◌+◌, ◌*◌, ◌-◌, ◌≤◌}
+use native.Mathlib.Omega.{arith}
+use mathlib.Core.Path.{◌≡◌, refl}
+use lib.Dec.{eqb}
+use lib.ListN.{length, get_or, drop}
+use Rattle.page.proofs.Going.{Going, going_first, going_next, going_last}
+use Rattle.rules.specs.Record.{words, width}
+use Rattle.rules.specs.Afterwards.{record_in}
+use Rattle.text.specs.Text.{line}
+use Rattle.text.specs.Pieces.{ended}
+use Rattle.text.proofs.Lines.{record_next, line_end}
+use borrow.Author.Rules.{rules}
+use Rattle.text.proofs.entry.Given as goal
+
+abbrev pub invariant-loop-k : goal.invariant-loop-k
+invariant-loop-k l = (l.k ≤ width) × (length l.out ≡ length l.initial.out) × Going l.initial.out l.n l.out l.at (11 * l.k) (line (drop l.k (words (record_in (drop l.first l.room))))) (line (words (record_in (drop l.first l.room))))
+
+abbrev pub decreases-loop-k : goal.decreases-loop-k
+decreases-loop-k l = width - l.k

@@ -1,0 +1,10 @@
+use borrow.Author.Rules.{rules}
+use Prim.Native.Nat.{◌+◌, ◌-◌}
+use native.Mathlib.Omega.{arith}
+use mathlib.Core.Path.{sym}
+use Rattle.tree.specs.Bytes.{node_at}
+use Rattle.tree.proofs.Past.{byte_past}
+use Rattle.tree.proofs.bytes.node_byte.Goals as goal
+
+pub returns-then-t-i : goal.returns-then-t-i
+returns-then-t-i c = (sym (byte_past c.args.t.now (node_at c.args.i + c.args.k) (omega arith)), search rules)

@@ -1,0 +1,19 @@
+use borrow.Author.Rules.{rules}
+use Prim.Native.Nat.{ℕ, ◌-◌, ◌≤◌, ◌<◌}
+use native.Mathlib.Omega.{arith}
+use mathlib.Core.Path.{◌≡◌, ◌∙◌}
+use borrow.Author.Tests.{le-ltb}
+use lib.Dec.{ltb}
+use lib.ListN.{length, get_or, length-set}
+use Rattle.tree.specs.Bytes.{value_count, pick}
+use Rattle.tree.specs.Table.{table_of}
+use Rattle.tree.specs.code.Numbers.{key_number}
+use Rattle.tree.proofs.KeyNumbers.{key_past_own}
+use Rattle.tree.proofs.Tables.{filled_more, filled_all}
+use Rattle.tree.proofs.keys.key_numbers.Given as goal
+
+abbrev pub invariant-loop-v : goal.invariant-loop-v
+invariant-loop-v l = (l.v ≤ l.few) × (length l.keys ≡ 512) × ((k : ℕ) → k < 512 → get_or l.keys k 0 ≡ pick (ltb k l.v) (key_number l.mode (table_of l.t) k) k)
+
+abbrev pub decreases-loop-v : goal.decreases-loop-v
+decreases-loop-v l = l.few - l.v

@@ -1,0 +1,15 @@
+use borrow.Author.Rules.{rules}
+use Prim.Native.Nat.{ℕ, ◌+◌, ◌*◌, ◌-◌, ◌/◌, ◌≤◌, ◌<◌, min}
+use native.Mathlib.Omega.{arith}
+use mathlib.Core.Path.{◌≡◌, sym, ◌∙◌}
+use lib.ListN.{get_or}
+use Rattle.tree.specs.Bytes.{bytes_from}
+use Rattle.tree.specs.Values.{magnitude, onward}
+use Rattle.tree.proofs.TableLaws.{onward_grows, onward_next, onward_end}
+use Rattle.tree.proofs.keys.leading.Given as goal
+
+abbrev pub invariant-loop-i : goal.invariant-loop-i
+invariant-loop-i l = (l.i ≤ l.k) × (l.a < 1152921504606847232) × (onward l.a (bytes_from (l.k - l.i) l.t (l.o + l.i)) ≡ magnitude (bytes_from l.k l.t l.o))
+
+abbrev pub decreases-loop-i : goal.decreases-loop-i
+decreases-loop-i l = l.k - l.i

@@ -1,0 +1,18 @@
+use borrow.Author.Rules.{rules}
+use Prim.Native.Nat.{ℕ, ◌+◌, ◌-◌, ◌/◌, ◌≤◌}
+use native.Mathlib.Omega.{arith}
+use mathlib.Core.Path.{◌≡◌, refl, sym, ap, ◌∙◌}
+use Rattle.tree.specs.Table.{table_of}
+use Rattle.tree.specs.code.Halving.{halve, halved}
+use Rattle.tree.specs.code.Numbers.{short_of, valued}
+use Rattle.tree.proofs.Fields.{offset_low}
+use Rattle.tree.proofs.Halving.{halve_up, halve_down, halve_end}
+use Rattle.tree.proofs.TableLaws.{start_at}
+use Rattle.tree.proofs.KeyNumbers.{short_here}
+use Rattle.tree.proofs.keys.place.Given as goal
+
+abbrev pub invariant-loop-left : goal.invariant-loop-left
+invariant-loop-left l = (l.lo + l.left ≤ l.n) × ((k : ℕ) × (l.left ≤ k) × (halve k l.lo l.left (short_of (table_of l.t) (valued l.w)) ≡ halved l.n (short_of (table_of l.t) (valued l.w))))
+
+abbrev pub decreases-loop-left : goal.decreases-loop-left
+decreases-loop-left l = l.left

@@ -1,0 +1,6 @@
+use borrow.Author.Rules.{rules}
+use Prim.Native.Nat.{◌-◌}
+use Rattle.tree.proofs.lookup.globals_given.Goals as goal
+
+pub returns : goal.returns
+returns c = rw (← c.global_count.ensures.0)

@@ -1,0 +1,13 @@
+use borrow.Author.Rules.{rules}
+use Prim.Native.Nat.{◌+◌, ◌-◌, ◌<◌}
+use native.Mathlib.Omega.{arith}
+use mathlib.Core.Path.{◌≡◌, sym, ◌∙◌}
+use Rattle.tree.specs.Nodes.{parent_of, parent_in}
+use Rattle.tree.proofs.Above.{parent_below, parent_zero, jump, found, at_zero, from_last}
+use Rattle.tree.proofs.nodes.parent_from.Given as goal
+
+abbrev pub invariant-loop-p : goal.invariant-loop-p
+invariant-loop-p l = (l.p < l.i) × (parent_in l.t l.i (l.p + 1) ≡ parent_of l.t l.i)
+
+abbrev pub decreases-loop-p : goal.decreases-loop-p
+decreases-loop-p l = l.p

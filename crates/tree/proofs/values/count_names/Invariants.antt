@@ -1,0 +1,18 @@
+use borrow.Author.Rules.{rules}
+use borrow.Author.Tests.{eq-eqb, ne_eqb}
+use Prim.Native.Nat.{◌+◌, ◌*◌, ◌-◌, ◌≤◌}
+use native.Mathlib.Omega.{arith}
+use mathlib.Core.Path.{◌≡◌, refl, sym, ◌∙◌}
+use mathlib.Core.Bool.{true, false}
+use Rattle.tree.specs.Search.{first}
+use Rattle.tree.specs.Values.{offset}
+use Rattle.tree.specs.code.Stages.{names_of, not_name}
+use Rattle.tree.proofs.Search.{first_start, first_here, first_next, first_end}
+use Rattle.tree.proofs.ValueLaws.{offset_next, offset_start}
+use Rattle.tree.proofs.values.count_names.Given as goal
+
+abbrev pub invariant-loop-i : goal.invariant-loop-i
+invariant-loop-i l = (l.i ≤ l.nv) × ((l.at ≤ 16395 + 65538 * l.i) × ((l.at ≡ offset l.t l.n l.i) × (first (l.nv - l.i) l.i (not_name l.t l.n) ≡ names_of l.t l.n l.nv)))
+
+abbrev pub decreases-loop-i : goal.decreases-loop-i
+decreases-loop-i l = l.nv - l.i

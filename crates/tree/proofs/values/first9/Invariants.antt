@@ -1,0 +1,17 @@
+use borrow.Author.Rules.{rules}
+use Prim.Native.Nat.{◌+◌, ◌-◌, ◌≤◌, ◌<◌}
+use native.Mathlib.Omega.{arith}
+use mathlib.Core.Path.{◌≡◌, sym, ◌∙◌}
+use mathlib.Core.Logic.{⊎_elim}
+use mathlib.Core.Bool.{false}
+use Rattle.tree.specs.Search.{first, lowest}
+use Rattle.tree.specs.code.Stages.{bad9, global_at, names_of}
+use Rattle.tree.proofs.Search.{first_start, first_here, first_next, first_end}
+use Rattle.tree.proofs.Names.{nine_none, nine_low, nine_ok, nine_first}
+use Rattle.tree.proofs.values.first9.Given as goal
+
+abbrev pub invariant-loop-i : goal.invariant-loop-i
+invariant-loop-i l = (l.i ≤ l.g) × ((0 < l.i → l.before ≡ global_at l.t l.n l.nv (l.i - 1)) × (first (l.g - l.i) l.i (bad9 l.t l.n l.nv) ≡ lowest l.g (bad9 l.t l.n l.nv)))
+
+abbrev pub decreases-loop-i : goal.decreases-loop-i
+decreases-loop-i l = l.g - l.i

@@ -1,0 +1,14 @@
+use borrow.Author.Rules.{rules}
+use Prim.Native.Nat.{◌+◌, ◌*◌, ◌-◌, ◌≤◌}
+use native.Mathlib.Omega.{arith}
+use mathlib.Core.Path.{◌≡◌, refl, sym}
+use Rattle.tree.specs.Values.{offset}
+use Rattle.tree.specs.Table.{at}
+use Rattle.tree.proofs.ValueLaws.{offset_next, offset_start}
+use Rattle.tree.proofs.values.offset_of.Given as goal
+
+abbrev pub invariant-loop-i : goal.invariant-loop-i
+invariant-loop-i l = (l.i ≤ l.v) × ((l.at ≤ 11 + 16 * l.n + 65538 * l.i) × (l.at ≡ offset l.t l.n l.i))
+
+abbrev pub decreases-loop-i : goal.decreases-loop-i
+decreases-loop-i l = l.v - l.i
