@@ -17,7 +17,11 @@ BY_HAND = {
     "values-from": "values_agree", "value-from": "value_agrees", "globals-from": "globals_agree", "parent-in": "parents_agree",
     "bytes-from": "bytes_from_fit", "isLiteral": "is_literal_at", "isName": "is_name_at", "level-of": "standing_level",
     "sure-of": "sure_as_level", "abort-of": "stop_abort", "idle-here": "here_idle", "kind-at": "kind_among",
-    "node-of": None, "span-of": "spot_span", "Same-trans": "same_trans", "Same-sym": "same_sym", "B-ends": "b_ends", "P-one": "p_one",
+    "node-of": None, "span-of": "spot_span", "Same-trans": "same_values_trans", "Same-sym": "same_values_sym", "B-ends": "b_ends", "P-one": "p_one",
+    "headAt": "node_head", "spotAt": "node_spot", "allStand": "kids_stand", "allFilled": "kids_filled", "forFirst": "kids_for_first",
+    "inOrder": "kids_in_order", "depth-in": "depths_agree", "forest-in": "forests_agree", "useOf": "node_use", "bindOf": "node_bind",
+    "kids-of": "kids_held", "warn-count": "warn_count_is", "unknown-lines": "unknown_lines_are", "resets-in": "resets_are",
+    "join-end": "join_end_is", "pass-lines": "pass_lines_are",
 }
 # two lemmas of one name
 BY_FILE = {("node-of", "tree"): "node_bytes", ("node-of", "names"): "node_in_part", ("level-of", "log"): "level_of", ("level-of", "sarif_log"): "level_of"}

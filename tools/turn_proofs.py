@@ -109,7 +109,13 @@ def rewrite(lts, place, body, var, said):
             return m[0]
         return "c." + ".".join(got + tail)
 
-    return re.sub(rf"(?<![\w.'-]){re.escape(var)}((?:\.[^\s(){{}}\[\],;.@«»`]+)+)", sub, body)
+    body = re.sub(rf"(?<![\w.'-]){re.escape(var)}((?:\.[^\s(){{}}\[\],;.@«»`]+)+)", sub, body)
+    # a test of `!x` says now what x is
+    body = re.sub(r"\(not-(true|false) \S+ (c\.if-not-\S+?\.\1)\)", r"\2", body)
+    body = re.sub(r"(?<![\w.'-])not-(true|false) (?:\([^()]*\)|\S+) (c\.if-not-[^\s(),]+\.\1)(?![\w.'-])", r"\2", body)
+    if re.search(r"c\.if-not-[^\s(),]+\.(true|false)", body):
+        said.append("a test of !x: " + place)
+    return body
 
 
 def turned(path, names, module, folder):
@@ -229,7 +235,7 @@ def turned(path, names, module, folder):
                     rest = [p for p in ps[1:] if p != "κs"]
                     if rest:
                         left.append(f"{goal}: more parameters {rest}")
-                    if body.strip() not in ALONE:
+                    if body.strip() not in ALONE or unf:
                         alone = False
                     body = rewrite(lts, place, body, var, left)
                     outs.append(f"{goal} {' '.join(t + ['c'] + rest)} =" + ("\n    " if "\n" in body or len(body) > 100 else " ") + body)

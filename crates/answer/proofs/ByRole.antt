@@ -7,7 +7,7 @@ use mathlib.Core.Bool.{Bool, true, false}
 use lib.Dec.{eqb}
 use borrow.Author.Tests.{eq-eqb}
 use Rattle.tree.specs.Bytes.{kind_at, role_at, size_at}
-use Rattle.tree.specs.Forest.{Head, Forest, none, node, spot_at, head_at, forest_of}
+use Rattle.tree.specs.Forest.{Head, Forest, none, node, node_spot, node_head, forest_of}
 use Rattle.tree.specs.code.Part.{Part}
 use Rattle.tree.specs.code.Find.{child_of, from_role}
 use Rattle.tree.proofs.Laws.{forest_none, forest_node}
@@ -29,26 +29,26 @@ module _ {B : Type 0} (r : ℕ) (v : Forest → B) (A : Head → Forest → B) (
       go false e f = on h k s e ∙ f
 
   pub there : {t : List ℕ} {i e : ℕ} → Part t i e → i ≤ e → child_of t r i e < e
-      → v (forest_of t i e) ≡ A (head_at t (child_of t r i e)) (forest_of t (child_of t r i e + 1) (child_of t r i e + size_at t (child_of t r i e)))
-  unfolding head_at
+      → v (forest_of t i e) ≡ A (node_head t (child_of t r i e)) (forest_of t (child_of t r i e + 1) (child_of t r i e + size_at t (child_of t r i e)))
+  unfolding node_head
   there {t} {i} {e} p h lt =
       same (forest_of t i e)
       ∙ ap v (child_forest p r ∙ forest_node (child_part p r h) lt)
-      ∙ here (head_at t (child_of t r i e)) _ _ (eq-eqb r (role_at t (child_of t r i e)) (sym (child_role p r lt)))
+      ∙ here (node_head t (child_of t r i e)) _ _ (eq-eqb r (role_at t (child_of t r i e)) (sym (child_role p r lt)))
 
   pub absent : {t : List ℕ} {i e : ℕ} → Part t i e → e ≤ child_of t r i e → v (forest_of t i e) ≡ z
   absent {t} {i} {e} p h = same (forest_of t i e) ∙ ap v (child_forest p r ∙ forest_none t (child_of t r i e) e h) ∙ nil
 
 module _ (r : ℕ) {t : List ℕ} {i e : ℕ} (p : Part t i e) (h : i ≤ e) (lt : child_of t r i e < e) where
-  pub head_there : head_at r (forest_of t i e) ≡ head_at t (child_of t r i e)
+  pub head_there : head_at r (forest_of t i e) ≡ node_head t (child_of t r i e)
   head_there = there r (head_at r) (λ g k. g) no_head refl (λ g k s b. rw (b, head_at)) (λ g k s b. rw (b, head_at)) p h lt
 
   pub kind_there : kind_among r (forest_of t i e) ≡ kind_at t (child_of t r i e)
-  unfolding head_at
+  unfolding node_head
   kind_there = ap (λ (g : Head). g.kind) head_there
 
-  pub place_there : spot_at r (forest_of t i e) ≡ spot_at t (child_of t r i e)
-  unfolding head_at
+  pub place_there : spot_at r (forest_of t i e) ≡ node_spot t (child_of t r i e)
+  unfolding node_head
   place_there = ap (λ (g : Head). g.spot) head_there
 
   pub under_there : under r (forest_of t i e) ≡ forest_of t (child_of t r i e + 1) (child_of t r i e + size_at t (child_of t r i e))

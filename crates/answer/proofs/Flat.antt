@@ -5,7 +5,7 @@ use native.Mathlib.Decide.{dec_lt}
 use mathlib.Core.Path.{◌≡◌, refl, sym, ap, ◌∙◌}
 use mathlib.Core.List.{List, [], ◌∷◌, ◌++◌, append_assoc}
 use Rattle.tree.specs.Bytes.{size_at}
-use Rattle.tree.specs.Forest.{Head, Forest, none, node, head_at, forest_of}
+use Rattle.tree.specs.Forest.{Head, Forest, none, node, node_head, forest_of}
 use Rattle.tree.specs.code.Part.{Part}
 use Rattle.tree.proofs.Laws.{later, sized, ended, kids, first, rest, forest_none, forest_node}
 use Rattle.rules.specs.Record.{Rec}
@@ -61,8 +61,8 @@ module _ {A : Type 0} (g : Forest → List A) (G : Head → Forest → List A) (
 
   -- node i, and its later siblings
   pub over : {t : List ℕ} {i e : ℕ} → Part t i e → i < e
-      → g (forest_of t i e) ≡ G (head_at t i) (forest_of t (i + 1) (i + size_at t i)) ++ g (forest_of t (i + size_at t i) e)
-  over {t} {i} {e} p lt = ap g (forest_node p lt) ∙ cons (head_at t i) (forest_of t (i + 1) (i + size_at t i)) (forest_of t (i + size_at t i) e)
+      → g (forest_of t i e) ≡ G (node_head t i) (forest_of t (i + 1) (i + size_at t i)) ++ g (forest_of t (i + size_at t i) e)
+  over {t} {i} {e} p lt = ap g (forest_node p lt) ∙ cons (node_head t i) (forest_of t (i + 1) (i + size_at t i)) (forest_of t (i + size_at t i) e)
 
   split_in : (n : ℕ) {t : List ℕ} {i j e : ℕ} → Part t i j → Part t j e → i ≤ j → j ≤ e → j - i ≤ n
       → g (forest_of t i e) ≡ g (forest_of t i j) ++ g (forest_of t j e)
@@ -76,7 +76,7 @@ module _ {A : Type 0} (g : Forest → List A) (G : Head → Forest → List A) (
       on (no h) f = let z : i ≡ j = omega arith in rw z (rw (past t j j (omega arith)))
       on (yes lt) f =
           over (joined p q b) (omega arith)
-          ∙ rw (f lt) (sym (append_assoc (G (head_at t i) (forest_of t (i + 1) (i + size_at t i))) (g (forest_of t (i + size_at t i) j)) (g (forest_of t j e))))
+          ∙ rw (f lt) (sym (append_assoc (G (node_head t i) (forest_of t (i + 1) (i + size_at t i))) (g (forest_of t (i + size_at t i) j)) (g (forest_of t j e))))
           ∙ ap (λ (l : List A). l ++ g (forest_of t j e)) (sym (over p lt))
 
   -- two parts side by side
@@ -88,12 +88,12 @@ module _ {A : Type 0} (g : Forest → List A) (G : Head → Forest → List A) (
   module _ (F : Head → Forest → List A) (down : (h : Head) (k : Forest) → G h k ≡ F h k ++ g k) where
     -- node i, and whatever has a higher number
     pub next : {t : List ℕ} {i e : ℕ} → Part t i e → i < e
-        → g (forest_of t i e) ≡ F (head_at t i) (forest_of t (i + 1) (i + size_at t i)) ++ g (forest_of t (i + 1) e)
+        → g (forest_of t i e) ≡ F (node_head t i) (forest_of t (i + 1) (i + size_at t i)) ++ g (forest_of t (i + 1) e)
     next {t} {i} {e} p lt =
         let z = sized p lt in
         over p lt
         ∙ rw (down, append_assoc)
-        (ap (λ (l : List A). F (head_at t i) (forest_of t (i + 1) (i + size_at t i)) ++ l) (sym (split (kids p lt) (rest p lt) (omega arith) (ended p lt))))
+        (ap (λ (l : List A). F (node_head t i) (forest_of t (i + 1) (i + size_at t i)) ++ l) (sym (split (kids p lt) (rest p lt) (omega arith) (ended p lt))))
 
 -- A walk's loop: what is written so far, with what is still left to list, comes to the whole list.
 pub record Gone (p₀ : Page) (all : List Rec) (p : Page) (left : List Rec) : Type 0 where

@@ -5,7 +5,7 @@ use mathlib.Core.Path.{◌≡◌, refl, ap, ◌∙◌}
 use mathlib.Core.List.{List, []}
 use lib.ListN.{length, set, get_or}
 use lib.Seq.{set_out}
-use Rattle.tree.specs.Forest.{Spot, number_at, spot_at}
+use Rattle.tree.specs.Forest.{Spot, number_at, node_spot}
 use Rattle.rules.specs.Record.{Rec, Span, with_value, words}
 use Rattle.rules.specs.Joined.{one_more, raise}
 use Rattle.answer.specs.declared.Ends.{Ends}
@@ -31,7 +31,7 @@ pub words_done : (t : List ℕ) (n : Note) {a b c : Ends} {v x y : ℕ} → span
     }) ≡ rec_of t n
 unfolding rec_of span_of
 words_done t n {a} {b} {c} p v q r x y =
-    let e : ◌≡◌ {A = Spot} (record { begin = a.begin; end = a.end; value = value_of t n.value }) (with_value (spot_at t n.at) (value_of t n.value))
+    let e : ◌≡◌ {A = Spot} (record { begin = a.begin; end = a.end; value = value_of t n.value }) (with_value (node_spot t n.at) (value_of t n.value))
     = ap (λ (s : Span). record { begin = s.begin; end = s.end; value = value_of t n.value }) p in
     rw (v, e, q, r, x, y)
 

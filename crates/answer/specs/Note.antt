@@ -1,6 +1,6 @@
 -- A record by what it speaks of. Assumes nothing.
 use Rattle.std.specs.Prelude.{ℕ, List}
-use Rattle.tree.specs.Forest.{number_at, spot_at}
+use Rattle.tree.specs.Forest.{number_at, node_spot}
 use Rattle.rules.specs.Record.{Rec, Span, no_span, spot_span, no_number, with_value}
 use Rattle.rules.specs.Dubious.{reason_span}
 use Rattle.answer.specs.declared.Ends.{Ends}
@@ -12,7 +12,7 @@ use Rattle.answer.specs.declared.Words.{Words}
 -- "0 0 where absent"
 unfoldable pub span_of : List ℕ → Place → Span
 span_of t Nowhere = no_span
-span_of t (Node i) = spot_span (spot_at t i)
+span_of t (Node i) = spot_span (node_spot t i)
 span_of t (Reason l) = reason_span l
 
 -- the span of two words
@@ -22,7 +22,7 @@ span_from e = record { begin = e.begin; end = e.end }
 -- "65535: none"
 unfoldable pub value_of : List ℕ → Place → ℕ
 value_of t Nowhere = no_number
-value_of t (Node i) = (spot_at t i).value
+value_of t (Node i) = (node_spot t i).value
 value_of t (Reason l) = no_number
 
 -- "the node that the second span came from, 65535 where none"
@@ -35,7 +35,7 @@ unfoldable pub rec_of : List ℕ → Note → Rec
 rec_of t n =
     record {
       code = n.code;
-      spot = with_value (spot_at t n.at) (value_of t n.value);
+      spot = with_value (node_spot t n.at) (value_of t n.value);
       second = span_of t n.second;
       third = span_of t n.third;
       number = number_at n.at;

@@ -3,7 +3,7 @@
 #![tactic(auto)]
 
 ghost use Rattle.std.specs.Prelude.{◌≡◌, ◌<◌};
-ghost use Rattle.tree.specs.Forest.{number_at, head_at};
+ghost use Rattle.tree.specs.Forest.{number_at, node_head};
 ghost use Rattle.rules.specs.Record.{plainly};
 ghost use Rattle.rules.specs.Joined.{one_more, raise, no_tally, no_full_tally};
 ghost use Rattle.answer.specs.Page.{stored, write, page, untallied};
@@ -223,7 +223,7 @@ pub fn plain(code: u32, i: usize) -> Note
 }
 
 pub fn put_plainly(t: &[u8], out: &mut [u32], s: Sheet, code: u32, i: usize) -> Sheet
-    ensures { page out.new result ≡ write (page out.old s) (plainly code (head_at t.now i)) }
+    ensures { page out.new result ≡ write (page out.old s) (plainly code (node_head t.now i)) }
 {
     put(t, out, s, plain(code, i))
 }

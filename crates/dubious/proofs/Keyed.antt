@@ -9,7 +9,7 @@ use lib.Dec.{eqb}
 use lib.ListN.{length, get_or}
 use borrow.Author.Tests.{ne_eqb}
 use Rattle.tree.specs.Bytes.{node_count, value_count, kind_at, role_at, size_at, value_at}
-use Rattle.tree.specs.Forest.{Head, Forest, none, node, spot_at, head_at, forest_of, tree_of}
+use Rattle.tree.specs.Forest.{Head, Forest, none, node, node_spot, node_head, forest_of, tree_of}
 use Rattle.tree.specs.code.Part.{Part}
 use Rattle.tree.specs.Judge.{judged}
 use Rattle.tree.specs.code.Sound.{Sound}
@@ -73,8 +73,8 @@ never true z = let y : ◌≡◌ {A = ℕ} 0 1 = ap (λ (b : Bool). cond b 1 0) 
 never false z = let y : ◌≡◌ {A = ℕ} 0 1 = ap (λ (b : Bool). cond b 1 0) z in omega arith
 
 -- the keys of a valid file
-key_value : {t : List ℕ} {f : Facts} → Sound t f → (i : ℕ) → i < node_count t → is_key (head_at t i) ≡ true → value_at t i < value_count t
-unfolding head_at
+key_value : {t : List ℕ} {f : Facts} → Sound t f → (i : ℕ) → i < node_count t → is_key (node_head t i) ≡ true → value_at t i < value_count t
+unfolding node_head
 key_value {t} {f} s i h e = go (ℕ_discrete (kind_at t i) 20) (ℕ_discrete (kind_at t i) 21)
   where
     go : Dec (kind_at t i ≡ 20) → Dec (kind_at t i ≡ 21) → value_at t i < value_count t
@@ -85,7 +85,7 @@ key_value {t} {f} s i h e = go (ℕ_discrete (kind_at t i) 20) (ℕ_discrete (ki
         absurd (never (eqb 8 (role_at t i)) z)
 
 part_fine : {t : List ℕ} {f : Facts} → Sound t f → {i e : ℕ} → Part t i e → e ≤ node_count t → Fine (value_count t) (forest_of t i e)
-unfolding head_at spot_at
+unfolding node_head node_spot
 part_fine {t} {f} s p = induct (λ i e. e ≤ node_count t → Fine (value_count t) (forest_of t i e)) t nothing more p
   where
     nothing : (i e : ℕ) → e ≤ i → e ≤ node_count t → Fine (value_count t) (forest_of t i e)

@@ -7,7 +7,7 @@ use mathlib.Core.Bool.{Bool, true, false, cond, ◌&&◌}
 use lib.Dec.{eqb, ltb}
 use borrow.Author.Tests.{ne_eqb, lt-ltb, le-ltb}
 use Rattle.tree.specs.Bytes.{kind_at, role_at, size_at, value_at, pick}
-use Rattle.tree.specs.Forest.{Head, Forest, node, spot_at, head_at, forest_of}
+use Rattle.tree.specs.Forest.{Head, Forest, node, node_spot, node_head, forest_of}
 use Rattle.tree.specs.code.Part.{Part, Subtree}
 use Rattle.tree.specs.declared.Likeness.{Likeness}
 use Rattle.tree.specs.declared.Likeness.TheVariants.{Different, SameForm, SameNumber}
@@ -27,16 +27,16 @@ use Rattle.dubious.specs.Scan.{is_key, before, seen, doubled, clashes}
 
 -- ---- is_key
 
-pub key_no : (t : List ℕ) (j : ℕ) → (role_at t j ≡ 8 → ⊥) → false ≡ is_key (head_at t j)
-unfolding head_at
+pub key_no : (t : List ℕ) (j : ℕ) → (role_at t j ≡ 8 → ⊥) → false ≡ is_key (node_head t j)
+unfolding node_head
 key_no t j h = rw (ne_eqb 8 (role_at t j) (λ z. h (sym z)))
 
-pub key_name : (t : List ℕ) (j : ℕ) → role_at t j ≡ 8 → kind_at t j ≡ 20 → true ≡ is_key (head_at t j)
-unfolding head_at
+pub key_name : (t : List ℕ) (j : ℕ) → role_at t j ≡ 8 → kind_at t j ≡ 20 → true ≡ is_key (node_head t j)
+unfolding node_head
 key_name t j h k = rw (h, k)
 
-pub key_literal : (t : List ℕ) (j : ℕ) → role_at t j ≡ 8 → (kind_at t j ≡ 20 → ⊥) → eqb (kind_at t j) 21 ≡ is_key (head_at t j)
-unfolding head_at
+pub key_literal : (t : List ℕ) (j : ℕ) → role_at t j ≡ 8 → (kind_at t j ≡ 20 → ⊥) → eqb (kind_at t j) 21 ≡ is_key (node_head t j)
+unfolding node_head
 key_literal t j h k = rw (h, ne_eqb 20 (kind_at t j) (λ z. k (sym z))) (eqb_swap (kind_at t j) 21)
 
 -- ---- keys of siblings
@@ -51,7 +51,7 @@ keys_cons h k s = go (is_key h)
     go true = refl
     go false = refl
 
-keys_over : {t : List ℕ} {i e : ℕ} → Part t i e → i < e → keys (forest_of t i e) ≡ key_of (head_at t i) ++ keys (forest_of t (i + size_at t i) e)
+keys_over : {t : List ℕ} {i e : ℕ} → Part t i e → i < e → keys (forest_of t i e) ≡ key_of (node_head t i) ++ keys (forest_of t (i + size_at t i) e)
 keys_over p lt = over keys (λ h k. key_of h) refl keys_cons p lt
 
 keys_past : (t : List ℕ) (i e : ℕ) → e ≤ i → keys (forest_of t i e) ≡ []
@@ -59,7 +59,7 @@ keys_past t i e h = past keys (λ h k. key_of h) refl keys_cons t i e h
 
 -- the keys up to the sibling after node j
 keys_onward : {t : List ℕ} {i j e : ℕ} → Part t i j → Part t j e → i ≤ j → j < e
-    → keys (forest_of t i (j + size_at t j)) ≡ keys (forest_of t i j) ++ key_of (head_at t j)
+    → keys (forest_of t i (j + size_at t j)) ≡ keys (forest_of t i j) ++ key_of (node_head t j)
 keys_onward {t} {i} {j} {e} p q a lt =
     split keys (λ h k. key_of h) refl keys_cons p (first q lt) a (omega arith)
     ∙ ap (λ (l : List Head). keys (forest_of t i j) ++ l)
@@ -85,11 +85,11 @@ clash_other SameNumber old s on e = let z : ◌≡◌ {A = ℕ} 1 0 = ap (λ (b 
 module _ (ns t : List ℕ) (j : ℕ) where
   -- the key at node j against others
   abbrev pub of_j : List Head → List Rec
-  of_j = against (like_by ns) (head_at t j)
+  of_j = against (like_by ns) (node_head t j)
 
   -- the key at node r, where r is below j
   abbrev pub at_most : ℕ → List Head
-  at_most r = listed (ltb r j) (head_at t r ∷ []) []
+  at_most r = listed (ltb r j) (node_head t r ∷ []) []
 
   abbrev pub equal : ℕ → Bool
   equal m = alike (like_by ns (value_at t m) (value_at t j))
@@ -102,15 +102,15 @@ module _ (ns t : List ℕ) (j : ℕ) where
   unfolding before
   before_same [] xs ys e = e
   before_same (p ∷ ps) xs ys e =
-      before_same ps (p ∷ xs) (p ∷ ys) (ap (clash (like_by ns p.spot.value (head_at t j).spot.value) p (head_at t j)) e)
+      before_same ps (p ∷ xs) (p ∷ ys) (ap (clash (like_by ns p.spot.value (node_head t j).spot.value) p (node_head t j)) e)
 
-  equal_here : (m : ℕ) → equal m ≡ true → (xs : List Head) → of_j (head_at t m ∷ xs) ≡ double (like_by ns (value_at t m) (value_at t j)) (head_at t m) (head_at t j) ∷ []
-  unfolding head_at spot_at
-  equal_here m e xs = clash_alike (like_by ns (value_at t m) (value_at t j)) (head_at t m) (head_at t j) (of_j xs) e
+  equal_here : (m : ℕ) → equal m ≡ true → (xs : List Head) → of_j (node_head t m ∷ xs) ≡ double (like_by ns (value_at t m) (value_at t j)) (node_head t m) (node_head t j) ∷ []
+  unfolding node_head node_spot
+  equal_here m e xs = clash_alike (like_by ns (value_at t m) (value_at t j)) (node_head t m) (node_head t j) (of_j xs) e
 
-  other_here : (m : ℕ) → equal m ≡ false → (xs : List Head) → of_j (head_at t m ∷ xs) ≡ of_j xs
-  unfolding head_at spot_at
-  other_here m e xs = clash_other (like_by ns (value_at t m) (value_at t j)) (head_at t m) (head_at t j) (of_j xs) e
+  other_here : (m : ℕ) → equal m ≡ false → (xs : List Head) → of_j (node_head t m ∷ xs) ≡ of_j xs
+  unfolding node_head node_spot
+  other_here m e xs = clash_other (like_by ns (value_at t m) (value_at t j)) (node_head t m) (node_head t j) (of_j xs) e
 
   pub scan_start : (i : ℕ) → Scanned i j i
   scan_start i = let z : ltb j j ≡ false = le-ltb j j (omega arith) in record { hit = rw z; left = rw z }
@@ -119,44 +119,44 @@ module _ (ns t : List ℕ) (j : ℕ) where
   unfolding before
   scan_end i old m s h = sym (rw (keys_past t m j h) at s.left) ∙ s.hit
 
-  pub scan_step : (i old m r : ℕ) → Part t m j → m < j → Scanned i old m → r ≡ pick (is_key (head_at t m) && equal m) m old
+  pub scan_step : (i old m r : ℕ) → Part t m j → m < j → Scanned i old m → r ≡ pick (is_key (node_head t m) && equal m) m old
       → Scanned i r (m + size_at t m)
-  unfolding before head_at
-  scan_step i old m r p lt s e = rw e (go (is_key (head_at t m)) (equal m) refl refl)
+  unfolding before node_head
+  scan_step i old m r p lt s e = rw e (go (is_key (node_head t m)) (equal m) refl refl)
     where
       rest_keys : List Head
       rest_keys = keys (forest_of t (m + size_at t m) j)
 
-      opened : of_j (before (key_of (head_at t m) ++ rest_keys) (at_most old)) ≡ clashes ns t i j
+      opened : of_j (before (key_of (node_head t m) ++ rest_keys) (at_most old)) ≡ clashes ns t i j
       opened = rw (keys_over p lt) at s.left
 
-      go : (a b : Bool) → is_key (head_at t m) ≡ a → equal m ≡ b → Scanned i (pick (a && b) m old) (m + size_at t m)
+      go : (a b : Bool) → is_key (node_head t m) ≡ a → equal m ≡ b → Scanned i (pick (a && b) m old) (m + size_at t m)
       go false b u v = record { hit = s.hit; left = rw u at opened }
       go true true u v =
           let z : ltb m j ≡ true = lt-ltb m j lt in
           record {
             hit = rw z (equal_here m v []);
             left =
-                rw z (before_same rest_keys (head_at t m ∷ []) (head_at t m ∷ at_most old) (equal_here m v [] ∙ sym (equal_here m v (at_most old))))
+                rw z (before_same rest_keys (node_head t m ∷ []) (node_head t m ∷ at_most old) (equal_here m v [] ∙ sym (equal_here m v (at_most old))))
                 ∙ rw u at opened;
           }
       go true false u v =
-          record { hit = s.hit; left = before_same rest_keys (at_most old) (head_at t m ∷ at_most old) (sym (other_here m v (at_most old))) ∙ rw u at opened }
+          record { hit = s.hit; left = before_same rest_keys (at_most old) (node_head t m ∷ at_most old) (sym (other_here m v (at_most old))) ∙ rw u at opened }
 
 -- ---- 16
 
 module _ (ns t : List ℕ) (i j : ℕ) (p : Page) where
   abbrev pub clash_recs : List Rec
-  clash_recs = listed (is_key (head_at t j)) (clashes ns t i j) []
+  clash_recs = listed (is_key (node_head t j)) (clashes ns t i j) []
 
-  pub clash_no : is_key (head_at t j) ≡ false → p ≡ writes p clash_recs
+  pub clash_no : is_key (node_head t j) ≡ false → p ≡ writes p clash_recs
   clash_no b = rw b (sym (writes_none p))
 
-  pub clash_new : (old : ℕ) → clashes ns t i j ≡ doubled ns t old j → j ≤ old → is_key (head_at t j) ≡ true → p ≡ writes p clash_recs
+  pub clash_new : (old : ℕ) → clashes ns t i j ≡ doubled ns t old j → j ≤ old → is_key (node_head t j) ≡ true → p ≡ writes p clash_recs
   clash_new old e h b = let z : ltb old j ≡ false = le-ltb old j h in rw (b, e, z) (sym (writes_none p))
 
-  pub clash_put : (old : ℕ) → clashes ns t i j ≡ doubled ns t old j → old < j → is_key (head_at t j) ≡ true → {q : Page}
-      → q ≡ write p (double (like_by ns (value_at t old) (value_at t j)) (head_at t old) (head_at t j)) → q ≡ writes p clash_recs
+  pub clash_put : (old : ℕ) → clashes ns t i j ≡ doubled ns t old j → old < j → is_key (node_head t j) ≡ true → {q : Page}
+      → q ≡ write p (double (like_by ns (value_at t old) (value_at t j)) (node_head t old) (node_head t j)) → q ≡ writes p clash_recs
   clash_put old e h b w =
       let z : ltb old j ≡ true = lt-ltb old j h in rw (b, e, z) (w ∙ sym (writes_one p _))
 
@@ -165,14 +165,14 @@ abbrev pub from_key : List ℕ → List ℕ → ℕ → ℕ → ℕ → List Rec
 from_key ns t i j e = doubles (like_by ns) (seen (forest_of t i j)) (keys (forest_of t j e))
 
 pub dict_step : (ns : List ℕ) {t : List ℕ} {i j e : ℕ} → Part t i j → Part t j e → i ≤ j → j < e
-    → from_key ns t i j e ≡ listed (is_key (head_at t j)) (clashes ns t i j) [] ++ from_key ns t i (j + size_at t j) e
-unfolding before head_at
+    → from_key ns t i j e ≡ listed (is_key (node_head t j)) (clashes ns t i j) [] ++ from_key ns t i (j + size_at t j) e
+unfolding before node_head
 dict_step ns {t} {i} {j} {e} p q a lt =
-    rw (keys_over q lt, keys_onward p q a lt, before_append) (go (is_key (head_at t j)))
+    rw (keys_over q lt, keys_onward p q a lt, before_append) (go (is_key (node_head t j)))
   where
     go : (b : Bool)
-        → doubles (like_by ns) (seen (forest_of t i j)) (listed b (head_at t j ∷ []) [] ++ keys (forest_of t (j + size_at t j) e))
-        ≡ listed b (clashes ns t i j) [] ++ doubles (like_by ns) (before (listed b (head_at t j ∷ []) []) (seen (forest_of t i j))) (keys (forest_of t (j + size_at t j) e))
+        → doubles (like_by ns) (seen (forest_of t i j)) (listed b (node_head t j ∷ []) [] ++ keys (forest_of t (j + size_at t j) e))
+        ≡ listed b (clashes ns t i j) [] ++ doubles (like_by ns) (before (listed b (node_head t j ∷ []) []) (seen (forest_of t i j))) (keys (forest_of t (j + size_at t j) e))
     go true = rw append-nil
     go false = refl
 
@@ -187,10 +187,10 @@ dict_start ns t i e = rw (keys_past t i i (omega arith))
 
 module _ (t : List ℕ) (i e j : ℕ) (w : Subtree t i) (p : Page) where
   abbrev pub idle_recs : List Rec
-  idle_recs = idle_at (head_at t i) (forest_of t (i + 1) (i + size_at t i))
+  idle_recs = idle_at (node_head t i) (forest_of t (i + 1) (i + size_at t i))
 
   pub idle_no : (kind_at t i ≡ 5 → ⊥) → p ≡ writes p idle_recs
-  unfolding head_at
+  unfolding node_head
   idle_no h = rw (ne_eqb 5 (kind_at t i) (λ z. h (sym z))) (sym (writes_none p))
 
   module _ (ee : e ≡ i + size_at t i) (ej : j ≡ child_of t 4 (i + 1) e) where
@@ -198,36 +198,36 @@ module _ (t : List ℕ) (i e j : ℕ) (w : Subtree t i) (p : Page) where
     below = kids w.part (omega (arith, w.some))
 
     pub idle_absent : e ≤ j → p ≡ writes p idle_recs
-    unfolding head_at
+    unfolding node_head
     idle_absent h =
         let z = kind_absent 4 below (rw (ej, ee) at h) in
         rw (z, and_false (eqb 5 (kind_at t i))) (sym (writes_none p))
 
     pub idle_other : j < e → (kind_at t j ≡ 20 → ⊥) → p ≡ writes p idle_recs
-    unfolding head_at
+    unfolding node_head
     idle_other h k =
         let z : kind_among 4 (forest_of t (i + 1) (i + size_at t i)) ≡ kind_at t j
         = kind_there 4 below (omega (arith, w.some)) (rw (ej, ee) at h) ∙ rw (ej, ee) in
         rw (z, ne_eqb 20 (kind_at t j) (λ y. k (sym y)), and_false (eqb 5 (kind_at t i))) (sym (writes_none p))
 
-    pub idle_put : kind_at t i ≡ 5 → j < e → kind_at t j ≡ 20 → {q : Page} → q ≡ write p (named_at 17 (head_at t j)) → q ≡ writes p idle_recs
-    unfolding head_at
+    pub idle_put : kind_at t i ≡ 5 → j < e → kind_at t j ≡ 20 → {q : Page} → q ≡ write p (named_at 17 (node_head t j)) → q ≡ writes p idle_recs
+    unfolding node_head
     idle_put a h k u =
         let z : kind_among 4 (forest_of t (i + 1) (i + size_at t i)) ≡ 20
         = kind_there 4 below (omega (arith, w.some)) (rw (ej, ee) at h) ∙ (rw (ej, ee) at k) in
-        let y : head_at 4 (forest_of t (i + 1) (i + size_at t i)) ≡ head_at t j
+        let y : head_at 4 (forest_of t (i + 1) (i + size_at t i)) ≡ node_head t j
         = head_there 4 below (omega (arith, w.some)) (rw (ej, ee) at h) ∙ rw (ej, ee) in
         rw (a, z, y) (u ∙ sym (writes_one p _))
 
 module _ (ns t : List ℕ) (i e : ℕ) (p : Page) where
   abbrev pub expr_recs : List Rec
-  expr_recs = dict_at (like_by ns) (head_at t i) (forest_of t (i + 1) (i + size_at t i))
+  expr_recs = dict_at (like_by ns) (node_head t i) (forest_of t (i + 1) (i + size_at t i))
 
   pub expr_no : (kind_at t i ≡ 29 → ⊥) → p ≡ writes p expr_recs
-  unfolding head_at
+  unfolding node_head
   expr_no h = rw (ne_eqb 29 (kind_at t i) (λ z. h (sym z))) (sym (writes_none p))
 
   pub expr_dict : kind_at t i ≡ 29 → e ≡ i + size_at t i → {q : Page}
       → q ≡ writes p (doubles (like_by ns) [] (keys (forest_of t (i + 1) e))) → q ≡ writes p expr_recs
-  unfolding head_at
+  unfolding node_head
   expr_dict k ee w = rw (k, append-nil) (rw ee at w)

@@ -2,7 +2,7 @@
 -- Nobody has to believe them: proofs/Keyed shows that of a valid file these are the keys of 01 and 02, §11.
 use Rattle.std.specs.Prelude.{ℕ, Bool, ◌&&◌, ◌||◌, List, [], ◌∷◌, eqb, ltb}
 use Rattle.tree.specs.Bytes.{value_at}
-use Rattle.tree.specs.Forest.{Head, Forest, head_at, forest_of}
+use Rattle.tree.specs.Forest.{Head, Forest, node_head, forest_of}
 use Rattle.tree.specs.code.Numbers.{like_by}
 use Rattle.rules.specs.Record.{Rec, listed}
 use Rattle.rules.specs.Dubious.{keys, double, against}
@@ -22,8 +22,8 @@ seen f = before (keys f) []
 
 -- 16 for the key at node j, where node r below it is the previous equal key
 abbrev pub doubled : List ℕ → List ℕ → ℕ → ℕ → List Rec
-doubled ns t r j = listed (ltb r j) (double (like_by ns (value_at t r) (value_at t j)) (head_at t r) (head_at t j) ∷ []) []
+doubled ns t r j = listed (ltb r j) (double (like_by ns (value_at t r) (value_at t j)) (node_head t r) (node_head t j) ∷ []) []
 
 -- the key at node j against those of its siblings from node i on
 abbrev pub clashes : List ℕ → List ℕ → ℕ → ℕ → List Rec
-clashes ns t i j = against (like_by ns) (head_at t j) (seen (forest_of t i j))
+clashes ns t i j = against (like_by ns) (node_head t j) (seen (forest_of t i j))

@@ -5,7 +5,7 @@
 
 ghost use Rattle.std.specs.Prelude.{◌≡◌, [], ◌+◌, ◌≤◌, ◌<◌, ◌&&◌};
 ghost use Rattle.tree.specs.Bytes.{size_at, value_at, pick};
-ghost use Rattle.tree.specs.Forest.{head_at, forest_of};
+ghost use Rattle.tree.specs.Forest.{node_head, forest_of};
 ghost use Rattle.tree.specs.Keys.{alike};
 ghost use Rattle.tree.specs.code.Numbers.{like_by};
 ghost use Rattle.tree.specs.code.Part.{Part, Subtree};
@@ -34,7 +34,7 @@ fn likeness(t: &[u8], numbers: &[u16], m: usize, j: usize) -> Likeness
 
 // Identifiers and literals are keys.
 fn to_key(t: &[u8], j: usize) -> bool
-    ensures { result ≡ is_key (head_at t.now j) }
+    ensures { result ≡ is_key (node_head t.now j) }
 {
     if role_at(t, j) != 8 {
         return false;
@@ -48,7 +48,7 @@ fn to_key(t: &[u8], j: usize) -> bool
 
 // Node m, where it is a key equal to that of node j; else old.
 fn later_key(t: &[u8], numbers: &[u16], m: usize, j: usize, old: usize) -> usize
-    ensures { result ≡ pick (is_key (head_at t.now m) && alike (like_by numbers.now (value_at t.now m) (value_at t.now j))) m old }
+    ensures { result ≡ pick (is_key (node_head t.now m) && alike (like_by numbers.now (value_at t.now m) (value_at t.now j))) m old }
 {
     if to_key(t, m) {
         let l = likeness(t, numbers, m, j);
@@ -78,7 +78,7 @@ fn previous(t: &[u8], numbers: &[u16], i: usize, j: usize) -> usize
 // 16 at the previous equal key, and why it is equal, for the key at node j.
 fn clash(t: &[u8], numbers: &[u16], i: usize, j: usize, out: &mut [u32], s: Sheet) -> Sheet
     requires { Part t.now i j }
-    ensures { page out.new result ≡ writes (page out.old s) (listed (is_key (head_at t.now j)) (clashes numbers.now t.now i j) []) }
+    ensures { page out.new result ≡ writes (page out.old s) (listed (is_key (node_head t.now j)) (clashes numbers.now t.now i j) []) }
 {
     if to_key(t, j) {
         let old = previous(t, numbers, i, j);
@@ -116,7 +116,7 @@ fn dict(t: &[u8], numbers: &[u16], i: usize, e: usize, out: &mut [u32], s: Sheet
 
 fn expr(t: &[u8], numbers: &[u16], i: usize, out: &mut [u32], s: Sheet) -> Sheet
     requires { Subtree t.now i }
-    ensures { page out.new result ≡ writes (page out.old s) (dict_at (like_by numbers.now) (head_at t.now i) (forest_of t.now (i + 1) (i + size_at t.now i))) }
+    ensures { page out.new result ≡ writes (page out.old s) (dict_at (like_by numbers.now) (node_head t.now i) (forest_of t.now (i + 1) (i + size_at t.now i))) }
 {
     if kind_at(t, i) == 29 {
         return dict(t, numbers, i + 1, i + size_at(t, i), out, s);
@@ -140,7 +140,7 @@ fn duplicate_dictionary_key(t: &[u8], numbers: &[u16], n: usize, out: &mut [u32]
 
 fn stmt(t: &[u8], i: usize, out: &mut [u32], s: Sheet) -> Sheet
     requires { Subtree t.now i }
-    ensures { page out.new result ≡ writes (page out.old s) (idle_at (head_at t.now i) (forest_of t.now (i + 1) (i + size_at t.now i))) }
+    ensures { page out.new result ≡ writes (page out.old s) (idle_at (node_head t.now i) (forest_of t.now (i + 1) (i + size_at t.now i))) }
 {
     if kind_at(t, i) != 5 {
         return s;

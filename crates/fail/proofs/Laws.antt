@@ -5,7 +5,7 @@ use mathlib.Core.Bool.{Bool, true, false, ◌&&◌, ◌||◌}
 use mathlib.Core.List.{List}
 use lib.Dec.{eqb}
 use Rattle.tree.specs.Bytes.{kind_at, role_at, size_at, value_at}
-use Rattle.tree.specs.Forest.{Head, Forest, none, node, spot_at, head_at, forest_of}
+use Rattle.tree.specs.Forest.{Head, Forest, none, node, node_spot, node_head, forest_of}
 use Rattle.tree.specs.code.Part.{Part}
 use Rattle.tree.proofs.Laws.{forest_none, forest_node, kids, rest}
 use Rattle.rules.specs.Order.{fail_named, fail_called}
@@ -21,7 +21,7 @@ module _ (g : Forest → Bool) (G : Head → Forest → Bool) (nil : g none ≡ 
 
   -- node j, which ends at n; b: whether it is G
   module _ {t : List ℕ} {i e j n : ℕ} (f : Gone g t i e j) (lt : j < e) (there : Part t j e → n ≡ j + size_at t j)
-      {b : Bool} (is : Part t (j + 1) n → b ≡ G (head_at t j) (forest_of t (j + 1) n)) where
+      {b : Bool} (is : Part t (j + 1) n → b ≡ G (node_head t j) (forest_of t (j + 1) n)) where
     any_node : Part t j e → g (forest_of t j e) ≡ (b || g (forest_of t n e))
     any_node p =
         let q : Part t (j + 1) n = rw (there p) (kids p lt) in
@@ -49,19 +49,19 @@ module _ (fail : ℕ) where
 
     module _ {b : Bool} (is : b ≡ (eqb 7 (role_at t j) && (eqb 20 (kind_at t j) && eqb (value_at t j) fail))) where
       pub named_here : Gone (fail_named (λ v. eqb v fail)) t i e j → j < e → b ≡ true → Part t i e → true ≡ fail_named (λ v. eqb v fail) (forest_of t i e)
-      unfolding head_at spot_at
+      unfolding node_head node_spot
       named_here f lt = any_here (fail_named (λ v. eqb v fail)) named refl (λ h k s. refl) {n = j + size_at t j} f lt (λ p. refl) (λ p. is)
 
       pub named_next : Gone (fail_named (λ v. eqb v fail)) t i e j → j < e → {n : ℕ} → (Part t j e → n ≡ j + size_at t j) → b ≡ false → Gone (fail_named (λ v. eqb v fail)) t i e n
-      unfolding head_at spot_at
+      unfolding node_head node_spot
       named_next f lt there = any_next (fail_named (λ v. eqb v fail)) named refl (λ h k s. refl) f lt there (λ p. is)
 
     module _ {n : ℕ} (there : Part t j e → n ≡ j + size_at t j) {b : Bool}
         (is : Part t (j + 1) n → b ≡ (eqb 4 (role_at t j) && (eqb 23 (kind_at t j) && fail_named (λ v. eqb v fail) (forest_of t (j + 1) n)))) where
       pub called_here : Gone (fail_called (λ v. eqb v fail)) t i e j → j < e → b ≡ true → Part t i e → true ≡ fail_called (λ v. eqb v fail) (forest_of t i e)
-      unfolding head_at
+      unfolding node_head
       called_here f lt = any_here (fail_called (λ v. eqb v fail)) called refl (λ h k s. refl) f lt there is
 
       pub called_next : Gone (fail_called (λ v. eqb v fail)) t i e j → j < e → b ≡ false → Gone (fail_called (λ v. eqb v fail)) t i e n
-      unfolding head_at
+      unfolding node_head
       called_next f lt = any_next (fail_called (λ v. eqb v fail)) called refl (λ h k s. refl) f lt there is

@@ -4,7 +4,7 @@ use native.Mathlib.Omega.{arith}
 use mathlib.Core.Path.{◌≡◌, sym, ap, ◌∙◌}
 use mathlib.Core.List.{List}
 use Rattle.tree.specs.Bytes.{size_at}
-use Rattle.tree.specs.Forest.{Forest, none, node, head_at, forest_of}
+use Rattle.tree.specs.Forest.{Forest, none, node, node_head, forest_of}
 use Rattle.tree.specs.code.Part.{Part}
 use Rattle.tree.proofs.Laws.{sized, ended, kids, rest, forest_none, forest_node, induct}
 use Rattle.answer.proofs.Flat.{joined}
@@ -26,7 +26,7 @@ forest_split {t} p = induct (λ i j. (e : ℕ) → Part t j e → i ≤ j → j 
         → (e : ℕ) → Part t j e → i ≤ j → j ≤ e → forest_of t i e ≡ beside (forest_of t i j) (forest_of t j e)
     more i j p lt below on e q a b =
         forest_node (joined p q b) (omega arith)
-        ∙ ap (node (head_at t i) (forest_of t (i + 1) (i + size_at t i))) (on e q (ended p lt) b)
+        ∙ ap (node (node_head t i) (forest_of t (i + 1) (i + size_at t i))) (on e q (ended p lt) b)
         ∙ ap (λ (f : Forest). beside f (forest_of t j e)) (sym (forest_node p lt))
 
 -- what is below node i, and what follows it

@@ -6,7 +6,7 @@ use mathlib.Core.List.{List}
 use lib.Dec.{eqb}
 use borrow.Author.Tests.{ne_eqb}
 use Rattle.tree.specs.Bytes.{kind_at, size_at}
-use Rattle.tree.specs.Forest.{Forest, head_at, forest_of}
+use Rattle.tree.specs.Forest.{Forest, node_head, forest_of}
 use Rattle.rules.specs.Visit.{look}
 use Rattle.rules.specs.Order.{fail_called}
 use Rattle.rules.specs.Flow.{ends_part, ends}
@@ -24,7 +24,7 @@ module _ (is_fail : ℕ → Bool) {t : List ℕ} {r i e j : ℕ} (l : Last t r i
     below = forest_of t (j + 1) (j + size_at t j)
 
     at_last : ends is_fail r (forest_of t i e) ≡ ends_part is_fail (kind_at t j) below (λ v. ends is_fail v below)
-    unfolding head_at
+    unfolding node_head
     at_last = last_there r (ends is_fail r) (λ h k. ends_part is_fail h.kind k (λ v. ends is_fail v k)) false refl (λ h k s. refl) l lt
 
     pub ends_return : kind_at t j ≡ 4 → true ≡ ends is_fail r (forest_of t i e)

@@ -7,7 +7,7 @@ use mathlib.Core.List.{List}
 use lib.Dec.{eqb}
 use borrow.Author.Tests.{lt-ltb, le-ltb}
 use Rattle.tree.specs.Bytes.{role_at, size_at, pick}
-use Rattle.tree.specs.Forest.{Head, Forest, Forest.none as leaf, node, head_at, forest_of}
+use Rattle.tree.specs.Forest.{Head, Forest, Forest.none as leaf, node, node_head, forest_of}
 use Rattle.tree.specs.code.Part.{Part}
 use Rattle.tree.proofs.Laws.{forest_none, forest_node}
 use Rattle.rules.specs.Visit.{has, last_of}
@@ -45,7 +45,7 @@ looked_end {t} {r} {i} {e} {last} {j} l h = record { from = l.from; found = sym 
 
 pub looked_step : {t : List ℕ} {r i e last j : ℕ} → Looked t r i e last j → Part t j e → j < e → (new : ℕ)
     → new ≡ pick (eqb r (role_at t j)) j last → Looked t r i e new (j + size_at t j)
-unfolding last_node later_of node_if head_at
+unfolding last_node later_of node_if node_head
 looked_step {t} {r} {i} {e} {last} {j} l p lt new q =
     record {
       on = omega (arith, l.on);
@@ -61,7 +61,7 @@ looked_step {t} {r} {i} {e} {last} {j} l p lt new q =
     from_step true h = l.on
     from_step false h = l.from h
 
-    here : (b : Bool) → later_of (cond b (node (head_at t j) (forest_of t (j + 1) (j + size_at t j)) leaf) leaf) (node_if t last e) ≡ node_if t (pick b j last) e
+    here : (b : Bool) → later_of (cond b (node (node_head t j) (forest_of t (j + 1) (j + size_at t j)) leaf) leaf) (node_if t last e) ≡ node_if t (pick b j last) e
     here true = rw (lt-ltb j e lt)
     here false = refl
 
@@ -100,7 +100,7 @@ module _ {B : Type 0} (r : ℕ) (v : Forest → B) (A : Head → Forest → B) (
       go false (node a b c) = refl
 
   pub last_there : {t : List ℕ} {i e j : ℕ} → Last t r i e j → j < e
-      → v (forest_of t i e) ≡ A (head_at t j) (forest_of t (j + 1) (j + size_at t j))
+      → v (forest_of t i e) ≡ A (node_head t j) (forest_of t (j + 1) (j + size_at t j))
   unfolding node_if
   last_there {t} {i} {e} {j} l lt = by_last (forest_of t i e) ∙ ap alone l.found ∙ rw (lt-ltb j e lt)
 

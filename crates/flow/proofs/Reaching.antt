@@ -7,7 +7,7 @@ use mathlib.Core.Bool.{Bool, true, false, cond, ◌&&◌, ◌||◌, not}
 use lib.Dec.{eqb, ltb}
 use borrow.Author.Tests.{eq-eqb, eqb-true, ltb-true, ltb-false}
 use Rattle.tree.specs.Bytes.{kind_at, size_at}
-use Rattle.tree.specs.Forest.{Forest, none, node, head_at, forest_of}
+use Rattle.tree.specs.Forest.{Forest, none, node, node_head, forest_of}
 use Rattle.tree.specs.code.Part.{Part, Subtree}
 use Rattle.tree.specs.code.Find.{child_of}
 use Rattle.tree.proofs.Laws.{ended, forest_none, forest_node, whole_at}
@@ -60,10 +60,10 @@ module _ (F : ℕ → Bool) (t : List ℕ) (i : ℕ) where
   under = forest_of t (i + 1) (i + size_at t i)
 
   abbrev pub reach_here : Reached
-  reach_here = reached_part F (head_at t i).kind under (λ v. reached F v under)
+  reach_here = reached_part F (node_head t i).kind under (λ v. reached F v under)
 
   at_kind : (m : ℕ) → kind_at t i ≡ m → reach_here ≡ reached_part F m under (λ v. reached F v under)
-  unfolding head_at
+  unfolding node_head
   at_kind m e = ap (λ (x : ℕ). reached_part F x under (λ v. reached F v under)) e
 
   pub here_list : {e : ℕ} → e ≡ i + size_at t i → kind_at t i ≡ 8 → reached F in_List (forest_of t (i + 1) e) ≡ reach_here
@@ -94,7 +94,7 @@ module _ (F : ℕ → Bool) (t : List ℕ) (i : ℕ) where
 
   pub here_each : {e k : ℕ} → e ≡ i + size_at t i → k ≡ kind_at t i → (eqb k 1 || (eqb k 2 || eqb k 4)) ≡ false
       → (kind_at t i ≡ 5 → ⊥) → (kind_at t i ≡ 8 → ⊥) → (kind_at t i ≡ 10 → ⊥) → reached F one_by_one (forest_of t (i + 1) e) ≡ reach_here
-  unfolding head_at
+  unfolding node_head
   here_each {e} {k} a q h x y z =
       rw a (each_through under ∙ sym (go (eqb (kind_at t i) 1) (eqb (kind_at t i) 2) (eqb (kind_at t i) 4) refl refl refl (rw q at h)))
     where
@@ -103,7 +103,7 @@ module _ (F : ℕ → Bool) (t : List ℕ) (i : ℕ) where
       go false true n p q r h = false_true (sym h)
       go false false true p q r h = false_true (sym h)
       go false false false p q r h =
-          reach_other F (head_at t i) under (λ v. reached F v under) (λ e. not_one 1 e p) (λ e. not_one 2 e q) (λ e. not_one 4 e r) x y z
+          reach_other F (node_head t i) under (λ v. reached F v under) (λ e. not_one 1 e p) (λ e. not_one 2 e q) (λ e. not_one 4 e r) x y z
 
 -- ---- statements in a row
 
@@ -197,10 +197,10 @@ side_ends r p h q lt = rw q (ended (child_part p r h) (rw q at lt))
 -- ---- 9
 
 module _ (t : List ℕ) (j e : ℕ) where
-  pub unreached_put : (p : Page) {q : Page} {b : Bool} → Part t j e → b ≡ true → j < e → q ≡ write p (plainly 9 (head_at t j))
+  pub unreached_put : (p : Page) {q : Page} {b : Bool} → Part t j e → b ≡ true → j < e → q ≡ write p (plainly 9 (node_head t j))
       → q ≡ writes p (listed b (after_stop (forest_of t j e)) [])
-  unfolding head_at
-  unreached_put p a b lt w = wrote_one p (plainly 9 (head_at t j)) w (rw (b, forest_node a lt))
+  unfolding node_head
+  unreached_put p a b lt w = wrote_one p (plainly 9 (node_head t j)) w (rw (b, forest_node a lt))
 
   pub unreached_end : (p : Page) {b : Bool} → b ≡ true → e ≤ j → p ≡ writes p (listed b (after_stop (forest_of t j e)) [])
   unreached_end p b h = wrote_none p (rw (b, forest_none t j e h))

@@ -9,7 +9,7 @@ use mathlib.Core.Option.{Option, none, some}
 use lib.Dec.{eqb, ltb}
 use borrow.Author.Tests.{lt-ltb, le-ltb, eq-eqb, ne_eqb}
 use Rattle.tree.specs.Bytes.{kind_at, role_at, size_at, value_at, pick}
-use Rattle.tree.specs.Forest.{Spot, Head, Forest, Forest.none as leaf, node, spot_at, head_at, forest_of}
+use Rattle.tree.specs.Forest.{Spot, Head, Forest, Forest.none as leaf, node, node_spot, node_head, forest_of}
 use Rattle.tree.specs.code.Part.{Part, Subtree}
 use Rattle.tree.specs.code.Find.{child_of}
 use Rattle.tree.specs.Children.{many}
@@ -61,8 +61,8 @@ module _ (is_none : ℕ → Bool) {t : List ℕ} {i e : ℕ} (p : Part t i e) (h
 
   type_there : child_of t 3 i e < e
       → type_reason is_none (forest_of t i e)
-      ≡ cond (eqb 20 (kind_at t (child_of t 3 i e)) && is_none (value_at t (child_of t 3 i e))) none (some (head_at t (child_of t 3 i e)))
-  unfolding head_at spot_at
+      ≡ cond (eqb 20 (kind_at t (child_of t 3 i e)) && is_none (value_at t (child_of t 3 i e))) none (some (node_head t (child_of t 3 i e)))
+  unfolding node_head node_spot
   type_there lt = there 3 (type_reason is_none) of_type none refl (λ g k s b. rw (b, type_reason)) (λ g k s b. rw (b, type_reason)) p h lt
 
   module _ (j : ℕ) (ej : j ≡ child_of t 3 i e) where
@@ -90,7 +90,7 @@ part_of h k = returns_part h.kind h k (λ v. returns v k)
 
 returns_over : {t : List ℕ} {j e : ℕ} → Part t j e → j < e
     → returns everything (forest_of t j e)
-    ≡ returns_part (head_at t j).kind (head_at t j) (forest_of t (j + 1) (j + size_at t j)) (λ v. returns v (forest_of t (j + 1) (j + size_at t j)))
+    ≡ returns_part (node_head t j).kind (node_head t j) (forest_of t (j + 1) (j + size_at t j)) (λ v. returns v (forest_of t (j + 1) (j + size_at t j)))
     ++ returns everything (forest_of t (j + size_at t j) e)
 unfolding part_of
 returns_over p lt = over (returns everything) part_of refl (λ h k s. refl) p lt
@@ -116,11 +116,11 @@ part_own h k down d = go (ℕ_discrete h.kind 4)
         rw (ne_eqb 4 h.kind (λ z. q (sym z)), ne_eqb h.kind 4 q, ne_eqb h.kind 12 d, look)
 
 pub returns_next : {t : List ℕ} {j e : ℕ} → Tidy t j e → j < e → (m : ℕ) → m ≡ j + pick (eqb 12 (kind_at t j)) (size_at t j) 1
-    → returns everything (forest_of t j e) ≡ own (head_at t j) (forest_of t (j + 1) (j + size_at t j)) ++ returns everything (forest_of t m e)
-unfolding head_at own
+    → returns everything (forest_of t j e) ≡ own (node_head t j) (forest_of t (j + 1) (j + size_at t j)) ++ returns everything (forest_of t m e)
+unfolding node_head own
 returns_next {t} {j} {e} w lt m q = go (ℕ_discrete (kind_at t j) 12)
   where
-    go : Dec (kind_at t j ≡ 12) → returns everything (forest_of t j e) ≡ own (head_at t j) (forest_of t (j + 1) (j + size_at t j)) ++ returns everything (forest_of t m e)
+    go : Dec (kind_at t j ≡ 12) → returns everything (forest_of t j e) ≡ own (node_head t j) (forest_of t (j + 1) (j + size_at t j)) ++ returns everything (forest_of t m e)
     go (yes d) =
         let m' : m ≡ j + size_at t j = q ∙ rw (eq-eqb 12 (kind_at t j) (sym d)) in
         rw (m', d) (returns_over w.part lt ∙ rw (d, (w.defs j (omega arith) lt d).rest))
@@ -129,9 +129,9 @@ returns_next {t} {j} {e} w lt m q = go (ℕ_discrete (kind_at t j) 12)
         let s = sized w.part lt in
         rw m'
         (returns_over w.part lt
-        ∙ ap (λ (l : List Return). l ++ returns everything (forest_of t (j + size_at t j) e)) (part_own (head_at t j) (forest_of t (j + 1) (j + size_at t j)) (λ v. returns v (forest_of t (j + 1) (j + size_at t j))) d)
-        ∙ append_assoc (own (head_at t j) (forest_of t (j + 1) (j + size_at t j))) _ _
-        ∙ ap (λ (l : List Return). own (head_at t j) (forest_of t (j + 1) (j + size_at t j)) ++ l) (sym (returns_split (kids w.part lt) (rest w.part lt) (omega arith) (ended w.part lt))))
+        ∙ ap (λ (l : List Return). l ++ returns everything (forest_of t (j + size_at t j) e)) (part_own (node_head t j) (forest_of t (j + 1) (j + size_at t j)) (λ v. returns v (forest_of t (j + 1) (j + size_at t j))) d)
+        ∙ append_assoc (own (node_head t j) (forest_of t (j + 1) (j + size_at t j))) _ _
+        ∙ ap (λ (l : List Return). own (node_head t j) (forest_of t (j + 1) (j + size_at t j)) ++ l) (sym (returns_split (kids w.part lt) (rest w.part lt) (omega arith) (ended w.part lt))))
 
 pub step_some : (t : List ℕ) (j : ℕ) → 1 ≤ size_at t j → 1 ≤ pick (eqb 12 (kind_at t j)) (size_at t j) 1
 step_some t j s = go (eqb 12 (kind_at t j))
@@ -152,16 +152,16 @@ first_own s false false on = refl
 module _ {t : List ℕ} {j e : ℕ} (w : Tidy t j e) (lt : j < e) where
   pub valued_here : (eqb 4 (kind_at t j) && has 4 (forest_of t (j + 1) (j + size_at t j))) ≡ true
       → head_if t j ≡ first_valued (returns everything (forest_of t j e))
-  unfolding head_if head_at own
+  unfolding head_if node_head own
   valued_here q =
       rw (lt-ltb j 65536 (omega (arith, w.part.few)))
-      (sym (ap first_valued (returns_next w lt _ refl) ∙ first_own (head_at t j) (eqb 4 (kind_at t j)) (has 4 (forest_of t (j + 1) (j + size_at t j))) _ ∙ rw q))
+      (sym (ap first_valued (returns_next w lt _ refl) ∙ first_own (node_head t j) (eqb 4 (kind_at t j)) (has 4 (forest_of t (j + 1) (j + size_at t j))) _ ∙ rw q))
 
   pub valued_next : (m : ℕ) → m ≡ j + pick (eqb 12 (kind_at t j)) (size_at t j) 1 → (eqb 4 (kind_at t j) && has 4 (forest_of t (j + 1) (j + size_at t j))) ≡ false
       → first_valued (returns everything (forest_of t m e)) ≡ first_valued (returns everything (forest_of t j e))
-  unfolding head_at own
+  unfolding node_head own
   valued_next m a q =
-      sym (ap first_valued (returns_next w lt m a) ∙ first_own (head_at t j) (eqb 4 (kind_at t j)) (has 4 (forest_of t (j + 1) (j + size_at t j))) _ ∙ rw q)
+      sym (ap first_valued (returns_next w lt m a) ∙ first_own (node_head t j) (eqb 4 (kind_at t j)) (has 4 (forest_of t (j + 1) (j + size_at t j))) _ ∙ rw q)
 
 pub valued_end : (t : List ℕ) (j e : ℕ) → e ≤ j → head_if t 65536 ≡ first_valued (returns everything (forest_of t j e))
 unfolding head_if
@@ -182,7 +182,7 @@ body_none (node h k s) z = go (ℕ_discrete h.role 1) (body_none s)
 
 pub body_one : {t : List ℕ} {i e : ℕ} → Part t i e → many 1 (forest_of t i e) ≤ 1 → (b : ℕ) → b ≡ child_of t 1 i e → b < e
     → returns the_body (forest_of t i e) ≡ returns everything (forest_of t b (b + size_at t b))
-unfolding head_at
+unfolding node_head
 body_one {t} p m b q lt = rw q (seek 1 Q t nothing here next p m (rw q at lt))
   where
     Q : ℕ → ℕ → Type 0
@@ -208,7 +208,7 @@ module _ (is_none : ℕ → Bool) {t : List ℕ} {i e : ℕ} (d : DefAt t i) (j 
   pub reason_type : e ≡ i + size_at t i → j < 65536 → head_if t j ≡ reason is_none (forest_of t (i + 1) (i + size_at t i))
   unfolding head_if
   reason_type ee l =
-      let z : type_reason is_none (forest_of t (i + 1) (i + size_at t i)) ≡ some (head_at t j) = rw (lt-ltb j 65536 l, ee) at (sym typed) in
+      let z : type_reason is_none (forest_of t (i + 1) (i + size_at t i)) ≡ some (node_head t j) = rw (lt-ltb j 65536 l, ee) at (sym typed) in
       rw (z, lt-ltb j 65536 l)
 
   pub reason_return : e ≡ i + size_at t i → 65536 ≤ j → (b x : ℕ) → b ≡ child_of t 1 (i + 1) e
@@ -242,29 +242,29 @@ bare_append h name why (x ∷ xs) ys = go (not x.valued) (bare_append h name why
 
 pub bare_next : (h : Head) (name : Spot) (why : Head) {t : List ℕ} {j e : ℕ} → Tidy t j e → j < e → (m : ℕ) → m ≡ j + pick (eqb 12 (kind_at t j)) (size_at t j) 1
     → bare_recs h name why (returns everything (forest_of t j e))
-    ≡ bare_recs h name why (own (head_at t j) (forest_of t (j + 1) (j + size_at t j))) ++ bare_recs h name why (returns everything (forest_of t m e))
+    ≡ bare_recs h name why (own (node_head t j) (forest_of t (j + 1) (j + size_at t j))) ++ bare_recs h name why (returns everything (forest_of t m e))
 bare_next h name why {t} {j} {e} w lt m q =
     ap (bare_recs h name why) (returns_next w lt m q)
-    ∙ bare_append h name why (own (head_at t j) (forest_of t (j + 1) (j + size_at t j))) (returns everything (forest_of t m e))
+    ∙ bare_append h name why (own (node_head t j) (forest_of t (j + 1) (j + size_at t j))) (returns everything (forest_of t m e))
 
 pub bare_past : (h : Head) (name : Spot) (why : Head) (t : List ℕ) (j e : ℕ) → e ≤ j → bare_recs h name why (returns everything (forest_of t j e)) ≡ []
 bare_past h name why t j e l = rw (returns_past t j e l)
 
 module _ (t : List ℕ) (j : ℕ) (h : Head) (name : Spot) (why : Head) (p : Page) where
   abbrev pub bare_one : List Rec
-  bare_one = bare_recs h name why (own (head_at t j) (forest_of t (j + 1) (j + size_at t j)))
+  bare_one = bare_recs h name why (own (node_head t j) (forest_of t (j + 1) (j + size_at t j)))
 
   pub bare_no : (kind_at t j ≡ 4 → ⊥) → p ≡ writes p bare_one
-  unfolding head_at own
+  unfolding node_head own
   bare_no q = rw (ne_eqb 4 (kind_at t j) (λ z. q (sym z))) (sym (writes_none p))
 
   pub bare_valued : kind_at t j ≡ 4 → has 4 (forest_of t (j + 1) (j + size_at t j)) ≡ true → p ≡ writes p bare_one
-  unfolding head_at own
+  unfolding node_head own
   bare_valued q v = rw (q, v) (sym (writes_none p))
 
   pub bare_put : kind_at t j ≡ 4 → has 4 (forest_of t (j + 1) (j + size_at t j)) ≡ false → {q : Page}
-      → q ≡ write p (missing_expression h name why (head_at t j)) → q ≡ writes p bare_one
-  unfolding head_at own
+      → q ≡ write p (missing_expression h name why (node_head t j)) → q ≡ writes p bare_one
+  unfolding node_head own
   bare_put q v w = rw (q, v) (w ∙ sym (writes_one p _))
 
 module _ (b : Bool) (r : Rec) (p : Page) where
@@ -280,21 +280,21 @@ listed_before false xs ys = refl
 
 module _ (is_fail is_none : ℕ → Bool) {t : List ℕ} {i : ℕ} (d : DefAt t i) (why : ℕ) (p : Page) where
   abbrev pub def_recs : List Rec
-  def_recs = check_for is_fail is_none (head_at t i) (forest_of t (i + 1) (i + size_at t i)) (head_if t why)
+  def_recs = check_for is_fail is_none (node_head t i) (forest_of t (i + 1) (i + size_at t i)) (head_if t why)
 
   pub for_none : 65536 ≤ why → p ≡ writes p def_recs
   unfolding head_if
   for_none h = rw (le-ltb why 65536 h) (sym (writes_none p))
 
   pub for_both : why < 65536 → (name b : ℕ) → name ≡ child_of t 6 (i + 1) (i + size_at t i) → b ≡ child_of t 1 (i + 1) (i + size_at t i) → {q r : Page}
-      → q ≡ writes p (listed (not (ends is_fail 1 (forest_of t (i + 1) (i + size_at t i)))) (missing (head_at t i) (spot_at t name) (head_at t why) ∷ []) [])
-      → r ≡ writes q (bare_recs (head_at t i) (spot_at t name) (head_at t why) (returns everything (forest_of t b (b + size_at t b))))
+      → q ≡ writes p (listed (not (ends is_fail 1 (forest_of t (i + 1) (i + size_at t i)))) (missing (node_head t i) (node_spot t name) (node_head t why) ∷ []) [])
+      → r ≡ writes q (bare_recs (node_head t i) (node_spot t name) (node_head t why) (returns everything (forest_of t b (b + size_at t b))))
       → r ≡ writes p def_recs
   unfolding head_if
   for_both h name b en eb u v =
       let s = def_shaped d in
       let w = kids d.at.tidy.part (omega (arith, d.at.some)) in
-      let z : spot_at 6 (forest_of t (i + 1) (i + size_at t i)) ≡ spot_at t name = place_there 6 w (omega (arith, d.at.some)) s.name ∙ ap (spot_at t) (sym en) in
+      let z : spot_at 6 (forest_of t (i + 1) (i + size_at t i)) ≡ node_spot t name = place_there 6 w (omega (arith, d.at.some)) s.name ∙ ap (node_spot t) (sym en) in
       let y = body_one w s.one b eb (rw eb s.body) in
       walked_both p _ _ u v
       ∙ ap (writes p) (rw (lt-ltb why 65536 h, z, y) (sym (listed_before (not (ends is_fail 1 (forest_of t (i + 1) (i + size_at t i)))) _ _)))
@@ -304,16 +304,16 @@ module _ (is_fail is_none : ℕ → Bool) {t : List ℕ} {i : ℕ} (d : DefAt t 
 module _ (is_fail is_none : ℕ → Bool) where
   module _ (t : List ℕ) (i : ℕ) (p : Page) where
     abbrev pub stmt_recs : List Rec
-    stmt_recs = check is_fail is_none (head_at t i).kind (head_at t i) (forest_of t (i + 1) (i + size_at t i))
+    stmt_recs = check is_fail is_none (node_head t i).kind (node_head t i) (forest_of t (i + 1) (i + size_at t i))
 
     pub stmt_no : (kind_at t i ≡ 12 → ⊥) → p ≡ writes p stmt_recs
-    unfolding head_at
+    unfolding node_head
     stmt_no q =
         sym (writes_none p) ∙ ap (writes p) (sym (rw (ne_eqb (kind_at t i) 12 q, look)))
 
     pub stmt_def : kind_at t i ≡ 12 → (why : ℕ) → head_if t why ≡ reason is_none (forest_of t (i + 1) (i + size_at t i)) → {q : Page}
-        → q ≡ writes p (check_for is_fail is_none (head_at t i) (forest_of t (i + 1) (i + size_at t i)) (head_if t why)) → q ≡ writes p stmt_recs
-    unfolding head_at
+        → q ≡ writes p (check_for is_fail is_none (node_head t i) (forest_of t (i + 1) (i + size_at t i)) (head_if t why)) → q ≡ writes p stmt_recs
+    unfolding node_head
     stmt_def k why u w = rw k (rw k at (rw u at w))
 
   part_recs : Head → Forest → List Rec
@@ -325,7 +325,7 @@ module _ (is_fail is_none : ℕ → Bool) where
 
   pub walk_next : {t : List ℕ} {i n : ℕ} → Part t i n → i < n
       → returns_walk is_fail is_none (forest_of t i n)
-      ≡ check is_fail is_none (head_at t i).kind (head_at t i) (forest_of t (i + 1) (i + size_at t i)) ++ returns_walk is_fail is_none (forest_of t (i + 1) n)
+      ≡ check is_fail is_none (node_head t i).kind (node_head t i) (forest_of t (i + 1) (i + size_at t i)) ++ returns_walk is_fail is_none (forest_of t (i + 1) n)
   unfolding part_recs
   walk_next p lt = next (returns_walk is_fail is_none) part_recs refl walk_cons (λ h k. check is_fail is_none h.kind h k) (λ h k. refl) p lt
 

@@ -8,7 +8,7 @@ use mathlib.Core.Bool.{Bool, true, false, cond, ◌||◌}
 use lib.Dec.{eqb, ltb}
 use borrow.Author.Tests.{ne_eqb, lt-ltb, le-ltb, eqb-true}
 use Rattle.tree.specs.Bytes.{kind_at, size_at, value_at, pick}
-use Rattle.tree.specs.Forest.{Spot, Head, Forest, none, node, spot_at, head_at, forest_of}
+use Rattle.tree.specs.Forest.{Spot, Head, Forest, none, node, node_spot, node_head, forest_of}
 use Rattle.tree.specs.code.Part.{Part, Subtree}
 use Rattle.tree.specs.code.Find.{child_of}
 use Rattle.tree.proofs.Laws.{sized, ended, first, whole_kids, kids, rest, forest_none, forest_node}
@@ -62,29 +62,29 @@ above k h =
     (λ a. absurd (omega arith), (λ a. absurd (omega arith), (λ a. absurd (omega arith), (λ a. absurd (omega arith), (λ a. absurd (omega arith), (λ a. absurd (omega arith), tt))))))
     (λ a. refl) h
 
-pub acts_string : (strings : List Bool) (t : List ℕ) (j : ℕ) {b : Bool} → kind_at t j ≡ 21 → b ≡ is_text strings (value_at t j) → b ≡ acting strings (head_at t j)
-unfolding head_at spot_at
+pub acts_string : (strings : List Bool) (t : List ℕ) (j : ℕ) {b : Bool} → kind_at t j ≡ 21 → b ≡ is_text strings (value_at t j) → b ≡ acting strings (node_head t j)
+unfolding node_head node_spot
 acts_string strings t j k e = rw k e
 
-pub acts_ellipsis : (strings : List Bool) (t : List ℕ) (j : ℕ) → kind_at t j ≡ 22 → false ≡ acting strings (head_at t j)
-unfolding head_at
+pub acts_ellipsis : (strings : List Bool) (t : List ℕ) (j : ℕ) → kind_at t j ≡ 22 → false ≡ acting strings (node_head t j)
+unfolding node_head
 acts_ellipsis strings t j k = rw k
 
-pub acts_lambda : (strings : List Bool) (t : List ℕ) (j : ℕ) → kind_at t j ≡ 24 → false ≡ acting strings (head_at t j)
-unfolding head_at
+pub acts_lambda : (strings : List Bool) (t : List ℕ) (j : ℕ) → kind_at t j ≡ 24 → false ≡ acting strings (node_head t j)
+unfolding node_head
 acts_lambda strings t j k = rw k
 
 pub acts_low : (strings : List Bool) (t : List ℕ) (j : ℕ) → (kind_at t j ≡ 21 → ⊥) → (kind_at t j ≡ 22 → ⊥) → (kind_at t j ≡ 24 → ⊥) → kind_at t j < 27
-    → true ≡ acting strings (head_at t j)
-unfolding head_at
+    → true ≡ acting strings (node_head t j)
+unfolding node_head
 acts_low strings t j a b c h =
     rw (ne_eqb 21 (kind_at t j) (λ z. a (sym z)))
     (look_all (λ m x. (m ≡ 22 → ⊥) → (m ≡ 24 → ⊥) → m < 27 → true ≡ acts_by x) (kind_at t j) effects some_effect
     (λ a b c. absurd (a refl), (λ a b c. absurd (b refl), (λ a b c. absurd (omega arith), (λ a b c. absurd (omega arith), (λ a b c. absurd (omega arith), (λ a b c. absurd (omega arith), tt))))))
     (λ a b c. refl) b c h)
 
-pub acts_high : (strings : List Bool) (t : List ℕ) (j : ℕ) → (kind_at t j ≡ 21 → ⊥) → 27 ≤ kind_at t j → ltb 30 (kind_at t j) ≡ acting strings (head_at t j)
-unfolding head_at
+pub acts_high : (strings : List Bool) (t : List ℕ) (j : ℕ) → (kind_at t j ≡ 21 → ⊥) → 27 ≤ kind_at t j → ltb 30 (kind_at t j) ≡ acting strings (node_head t j)
+unfolding node_head
 acts_high strings t j a h = rw (ne_eqb 21 (kind_at t j) (λ z. a (sym z))) (go (dec_lt 30 (kind_at t j)))
   where
     go : Dec (30 < kind_at t j) → ltb 30 (kind_at t j) ≡ acts_by (look (kind_at t j) effects some_effect)
@@ -127,12 +127,12 @@ module _ (F : ℕ → Bool) where
   effect_past t i e h = rw (forest_none t i e h)
 
 module _ (strings : List Bool) where
-  pub effect_hit : {t : List ℕ} {i e : ℕ} → Part t i e → i < e → acting strings (head_at t i) ≡ true → true ≡ effect (is_text strings) (forest_of t i e)
+  pub effect_hit : {t : List ℕ} {i e : ℕ} → Part t i e → i < e → acting strings (node_head t i) ≡ true → true ≡ effect (is_text strings) (forest_of t i e)
   effect_hit {t} {i} {e} p lt h =
-      rw (forest_node p lt) (go (eqb 21 (head_at t i).kind) (look (head_at t i).kind effects some_effect) h)
+      rw (forest_node p lt) (go (eqb 21 (node_head t i).kind) (look (node_head t i).kind effects some_effect) h)
     where
-      go : (b : Bool) (x : Effect) → cond b (is_text strings (head_at t i).spot.value) (acts_by x) ≡ true
-          → true ≡ (cond b (is_text strings (head_at t i).spot.value)
+      go : (b : Bool) (x : Effect) → cond b (is_text strings (node_head t i).spot.value) (acts_by x) ≡ true
+          → true ≡ (cond b (is_text strings (node_head t i).spot.value)
           (elim x [ some_effect ↦ true | none_effect ↦ false | by_children ↦ effect (is_text strings) (forest_of t (i + 1) (i + size_at t i)) ])
           || effect (is_text strings) (forest_of t (i + size_at t i) e))
       go true x q = rw q
@@ -140,15 +140,15 @@ module _ (strings : List Bool) where
       go false none_effect q = false_true q
       go false by_children q = false_true q
 
-  pub effect_miss : {t : List ℕ} {i e : ℕ} → Part t i e → i < e → acting strings (head_at t i) ≡ false
+  pub effect_miss : {t : List ℕ} {i e : ℕ} → Part t i e → i < e → acting strings (node_head t i) ≡ false
       → effect (is_text strings) (forest_of t i e) ≡ effect (is_text strings) (forest_of t (inside t i) e)
-  unfolding head_at
+  unfolding node_head
   effect_miss {t} {i} {e} p lt h =
       ap (effect (is_text strings)) (forest_node p lt) ∙ go (eqb 21 (kind_at t i)) refl (look (kind_at t i) effects some_effect) refl h
     where
       go : (b : Bool) → eqb 21 (kind_at t i) ≡ b → (x : Effect) → look (kind_at t i) effects some_effect ≡ x
-          → cond b (is_text strings (head_at t i).spot.value) (acts_by x) ≡ false
-          → (cond b (is_text strings (head_at t i).spot.value)
+          → cond b (is_text strings (node_head t i).spot.value) (acts_by x) ≡ false
+          → (cond b (is_text strings (node_head t i).spot.value)
           (elim x [ some_effect ↦ true | none_effect ↦ false | by_children ↦ effect (is_text strings) (forest_of t (i + 1) (i + size_at t i)) ])
           || effect (is_text strings) (forest_of t (i + size_at t i) e))
           ≡ effect (is_text strings) (forest_of t (onto x (i + 1) (i + size_at t i)) e)
@@ -163,24 +163,24 @@ module _ (strings : List Bool) where
 
 module _ (strings : List Bool) (t : List ℕ) (i : ℕ) where
   abbrev pub here_idle : List Rec
-  here_idle = idle_at strings (head_at t i) (forest_of t (i + 1) (i + size_at t i))
+  here_idle = idle_at strings (node_head t i) (forest_of t (i + 1) (i + size_at t i))
 
   pub idle_no : (p : Page) → (kind_at t i ≡ 5 → ⊥) → p ≡ writes p here_idle
-  unfolding head_at
-  idle_no p n = wrote_none p (effect_other (is_text strings) (head_at t i) (forest_of t (i + 1) (i + size_at t i)) [] n)
+  unfolding node_head
+  idle_no p n = wrote_none p (effect_other (is_text strings) (node_head t i) (forest_of t (i + 1) (i + size_at t i)) [] n)
 
   pub idle_acts : (p : Page) {b : Bool} → kind_at t i ≡ 5 → b ≡ effect (is_text strings) (forest_of t (i + 1) (i + size_at t i)) → b ≡ true → p ≡ writes p here_idle
-  unfolding head_at
+  unfolding node_head
   idle_acts p k e h = wrote_none p (rw (k, sym e ∙ h))
 
   pub idle_put : (p : Page) {q : Page} {b : Bool} → Subtree t i → kind_at t i ≡ 5
       → b ≡ effect (is_text strings) (forest_of t (i + 1) (i + size_at t i)) → b ≡ false → (c : ℕ)
       → c ≡ child_of t 4 (i + 1) (i + size_at t i) → c < i + size_at t i
-      → q ≡ write p (plainly 13 (head_at t c)) → q ≡ writes p here_idle
-  unfolding head_at
+      → q ≡ write p (plainly 13 (node_head t c)) → q ≡ writes p here_idle
+  unfolding node_head
   idle_put p w k e h c y lt q =
-      wrote_one p (plainly 13 (head_at t c)) q
-      (rw (k, sym e ∙ h) (ap (λ (s : Head). plainly 13 s ∷ []) (head_there 4 (whole_kids w) (omega (arith, w.some)) (rw y at lt) ∙ ap (head_at t) (sym y))))
+      wrote_one p (plainly 13 (node_head t c)) q
+      (rw (k, sym e ∙ h) (ap (λ (s : Head). plainly 13 s ∷ []) (head_there 4 (whole_kids w) (omega (arith, w.some)) (rw y at lt) ∙ ap (node_head t) (sym y))))
 
 module _ (strings : List Bool) where
   abbrev walk : Forest → List Rec
@@ -194,16 +194,16 @@ module _ (strings : List Bool) where
 
   pub idle_next : {t : List ℕ} {i n : ℕ} → Part t i n → i < n
       → effect_walk (is_text strings) (forest_of t i n) ≡ here_idle strings t i ++ effect_walk (is_text strings) (forest_of t (past_of 5 t i) n)
-  unfolding head_at
+  unfolding node_head
   idle_next {t} {i} {n} p lt = over walk Walk refl (λ h k s. refl) p lt ∙ go (ℕ_discrete 5 (kind_at t i))
     where
       go : Dec (5 ≡ kind_at t i)
-          → Walk (head_at t i) (forest_of t (i + 1) (i + size_at t i)) ++ walk (forest_of t (i + size_at t i) n)
+          → Walk (node_head t i) (forest_of t (i + 1) (i + size_at t i)) ++ walk (forest_of t (i + size_at t i) n)
           ≡ here_idle strings t i ++ walk (forest_of t (past_of 5 t i) n)
       go (yes k) = rw (← k)
       go (no k) =
           let z : kind_at t i ≡ 5 → ⊥ = λ y. k (sym y) in
-          rw (ne_eqb 5 (kind_at t i) k, effect_other (is_text strings) (head_at t i) (forest_of t (i + 1) (i + size_at t i)) [] z, effect_other (is_text strings) (head_at t i) (forest_of t (i + 1) (i + size_at t i)) (walk (forest_of t (i + 1) (i + size_at t i))) z)
+          rw (ne_eqb 5 (kind_at t i) k, effect_other (is_text strings) (node_head t i) (forest_of t (i + 1) (i + size_at t i)) [] z, effect_other (is_text strings) (node_head t i) (forest_of t (i + 1) (i + size_at t i)) (walk (forest_of t (i + 1) (i + size_at t i))) z)
           (sym (split walk Walk refl (λ h k s. refl) (kids p lt) (rest p lt) (omega (arith, sized p lt)) (ended p lt)))
 
 pub past_after : (k : ℕ) (t : List ℕ) (i : ℕ) → 1 ≤ size_at t i → i < past_of k t i
@@ -226,48 +226,48 @@ pub text_none : (F : ℕ → Bool) (t : List ℕ) (i e : ℕ) → e ≤ i → fa
 text_none F t i e h = rw (forest_none t i e h)
 
 pub text_other : (F : ℕ → Bool) {t : List ℕ} {i e : ℕ} → Part t i e → i < e → (kind_at t i ≡ 21 → ⊥) → false ≡ string_stated F (forest_of t i e)
-unfolding head_at
+unfolding node_head
 text_other F {t} {i} {e} p lt n = rw (forest_node p lt) (rw (ne_eqb 21 (kind_at t i) (λ z. n (sym z))))
 
 pub text_there : (F : ℕ → Bool) {t : List ℕ} {i e : ℕ} {b : Bool} → Part t i e → i < e → kind_at t i ≡ 21 → b ≡ F (value_at t i) → b ≡ string_stated F (forest_of t i e)
-unfolding head_at spot_at
+unfolding node_head node_spot
 text_there F {t} {i} {e} p lt k h = rw (forest_node p lt) (rw k h)
 
 module _ (strings : List Bool) (may : Bool) (t : List ℕ) (j : ℕ) where
   abbrev pub load_here : Loads
-  load_here = load_at strings may (head_at t j) (forest_of t (j + 1) (j + size_at t j))
+  load_here = load_at strings may (node_head t j) (forest_of t (j + 1) (j + size_at t j))
 
   pub may_list : kind_at t j ≡ 8 → may ≡ load_here.may
-  unfolding head_at
+  unfolding node_head
   may_list k = rw k
 
   pub may_load : kind_at t j ≡ 13 → may ≡ load_here.may
-  unfolding head_at
+  unfolding node_head
   may_load k = rw k
 
   pub may_text : {b : Bool} → kind_at t j ≡ 5 → may ≡ true → b ≡ string_stated (is_text strings) (forest_of t (j + 1) (j + size_at t j)) → b ≡ load_here.may
-  unfolding head_at
+  unfolding node_head
   may_text k m e = rw (k, m) e
 
   pub may_not : kind_at t j ≡ 5 → may ≡ false → false ≡ load_here.may
-  unfolding head_at
+  unfolding node_head
   may_not k m = rw (k, m)
 
   pub may_end : (kind_at t j ≡ 5 → ⊥) → (kind_at t j ≡ 8 → ⊥) → (kind_at t j ≡ 13 → ⊥) → false ≡ load_here.may
-  unfolding head_at
-  may_end a b c = rw (loads_end (is_text strings) may (head_at t j) (forest_of t (j + 1) (j + size_at t j)) (λ v. record { may = v; recs = [] }) a b c)
+  unfolding node_head
+  may_end a b c = rw (loads_end (is_text strings) may (node_head t j) (forest_of t (j + 1) (j + size_at t j)) (λ v. record { may = v; recs = [] }) a b c)
 
   pub load_no : (p : Page) → (kind_at t j ≡ 13 → ⊥) → p ≡ writes p load_here.recs
-  unfolding head_at
-  load_no p n = wrote_none p (loads_silent (is_text strings) may (head_at t j) (forest_of t (j + 1) (j + size_at t j)) n)
+  unfolding node_head
+  load_no p n = wrote_none p (loads_silent (is_text strings) may (node_head t j) (forest_of t (j + 1) (j + size_at t j)) n)
 
   pub load_allowed : (p : Page) → kind_at t j ≡ 13 → may ≡ true → p ≡ writes p load_here.recs
-  unfolding head_at
-  load_allowed p k m = wrote_none p (ap (λ (l : Loads). l.recs) (loads_load (is_text strings) may (head_at t j) (forest_of t (j + 1) (j + size_at t j)) (λ v. record { may = v; recs = [] }) k) ∙ rw m)
+  unfolding node_head
+  load_allowed p k m = wrote_none p (ap (λ (l : Loads). l.recs) (loads_load (is_text strings) may (node_head t j) (forest_of t (j + 1) (j + size_at t j)) (λ v. record { may = v; recs = [] }) k) ∙ rw m)
 
-  pub load_put : (p : Page) {q : Page} → kind_at t j ≡ 13 → may ≡ false → q ≡ write p (plainly 12 (head_at t j)) → q ≡ writes p load_here.recs
-  unfolding head_at
-  load_put p k m q = wrote_one p (plainly 12 (head_at t j)) q (ap (λ (l : Loads). l.recs) (loads_load (is_text strings) may (head_at t j) (forest_of t (j + 1) (j + size_at t j)) (λ v. record { may = v; recs = [] }) k) ∙ rw m)
+  pub load_put : (p : Page) {q : Page} → kind_at t j ≡ 13 → may ≡ false → q ≡ write p (plainly 12 (node_head t j)) → q ≡ writes p load_here.recs
+  unfolding node_head
+  load_put p k m q = wrote_one p (plainly 12 (node_head t j)) q (ap (λ (l : Loads). l.recs) (loads_load (is_text strings) may (node_head t j) (forest_of t (j + 1) (j + size_at t j)) (λ v. record { may = v; recs = [] }) k) ∙ rw m)
 
 module _ (F : ℕ → Bool) where
   loads_beside : (a b : Forest) (may : Bool)
@@ -288,18 +288,18 @@ module _ (F : ℕ → Bool) where
 pub loads_next : (strings : List Bool) (may : Bool) {t : List ℕ} {j n : ℕ} → Part t j n → j < n
     → (loads (is_text strings) may (forest_of t j n)).recs
     ≡ (load_here strings may t j).recs ++ (loads (is_text strings) (load_here strings may t j).may (forest_of t (into_of 8 t j) n)).recs
-unfolding head_at
+unfolding node_head
 loads_next strings may {t} {j} {n} p lt = ap (λ (f : Forest). (loads (is_text strings) may f).recs) (forest_node p lt) ∙ go (ℕ_discrete 8 (kind_at t j))
   where
     go : Dec (8 ≡ kind_at t j)
-        → (loads (is_text strings) may (node (head_at t j) (forest_of t (j + 1) (j + size_at t j)) (forest_of t (j + size_at t j) n))).recs
+        → (loads (is_text strings) may (node (node_head t j) (forest_of t (j + 1) (j + size_at t j)) (forest_of t (j + size_at t j) n))).recs
         ≡ (load_here strings may t j).recs ++ (loads (is_text strings) (load_here strings may t j).may (forest_of t (into_of 8 t j) n)).recs
     go (yes k) =
         rw (← k)
         (sym (ap (λ (f : Forest). (loads (is_text strings) may f).recs) (below_split p lt)
         ∙ ap (λ (l : Loads). l.recs) (loads_beside (is_text strings) (forest_of t (j + 1) (j + size_at t j)) (forest_of t (j + size_at t j) n) may)))
     go (no k) =
-        rw (ne_eqb 8 (kind_at t j) k, loads_other (is_text strings) may (head_at t j) (forest_of t (j + 1) (j + size_at t j)) (λ v. loads (is_text strings) v (forest_of t (j + 1) (j + size_at t j))) (λ v. record { may = v; recs = [] }) (λ z. k (sym z)))
+        rw (ne_eqb 8 (kind_at t j) k, loads_other (is_text strings) may (node_head t j) (forest_of t (j + 1) (j + size_at t j)) (λ v. loads (is_text strings) v (forest_of t (j + 1) (j + size_at t j))) (λ v. record { may = v; recs = [] }) (λ z. k (sym z)))
 
 -- in a valid file an expression statement has an expression
 pub stated_valid : {t : List ℕ} {n : ℕ} → Checked t n → (j : ℕ) → j < n → Stated t j

@@ -6,7 +6,7 @@ use mathlib.Core.Path.{◌≡◌, refl, sym, ap, ◌∙◌}
 use mathlib.Core.List.{List, [], ◌∷◌, ◌++◌, append_assoc}
 use mathlib.Core.Bool.{Bool, true, false, ◌&&◌, not}
 use Rattle.tree.specs.Bytes.{kind_at, size_at}
-use Rattle.tree.specs.Forest.{Head, Forest, node, head_at, forest_of}
+use Rattle.tree.specs.Forest.{Head, Forest, node, node_head, forest_of}
 use Rattle.tree.specs.code.Part.{Part, Subtree}
 use Rattle.tree.specs.code.Find.{child_of}
 use Rattle.tree.proofs.Laws.{later, forest_none, forest_node, whole_at, whole_kids}
@@ -34,7 +34,7 @@ module _ (loops : Bool) (t : List ℕ) (i : ℕ) where
   under = forest_of t (i + 1) (i + size_at t i)
 
   abbrev pub bare_here : List Rec
-  bare_here = listed (not loops && not (has 4 under)) (plainly 10 (head_at t i) ∷ []) []
+  bare_here = listed (not loops && not (has 4 under)) (plainly 10 (node_head t i) ∷ []) []
 
   pub bare_loops : (p : Page) → loops ≡ true → p ≡ writes p bare_here
   bare_loops p e = wrote_none p (rw e)
@@ -44,30 +44,30 @@ module _ (loops : Bool) (t : List ℕ) (i : ℕ) where
       let z : not (has 4 under) ≡ false = rw (has_there 4 (whole_kids w) (omega (arith, w.some)) (rw (b, a) at lt)) in
       wrote_none p (rw z (never (not loops)))
     where
-      never : (b : Bool) → listed (b && false) (plainly 10 (head_at t i) ∷ []) [] ≡ []
+      never : (b : Bool) → listed (b && false) (plainly 10 (node_head t i) ∷ []) [] ≡ []
       never true = refl
       never false = refl
 
   pub bare_put : (p : Page) {q : Page} {e c : ℕ} → Subtree t i → loops ≡ false → e ≡ i + size_at t i → c ≡ child_of t 4 (i + 1) e → e ≤ c
-      → q ≡ write p (plainly 10 (head_at t i)) → q ≡ writes p bare_here
+      → q ≡ write p (plainly 10 (node_head t i)) → q ≡ writes p bare_here
   bare_put p {q} {e} {c} w l a b h r =
-      wrote_one p (plainly 10 (head_at t i)) r (rw (l, has_absent 4 (whole_kids w) (rw (b, a) at h)))
+      wrote_one p (plainly 10 (node_head t i)) r (rw (l, has_absent 4 (whole_kids w) (rw (b, a) at h)))
 
   -- the statement at node i, last
   abbrev pub tail_here : List Rec
-  tail_here = tail_part (head_at t i).kind loops (head_at t i) under (λ v. tail loops v under)
+  tail_here = tail_part (node_head t i).kind loops (node_head t i) under (λ v. tail loops v under)
 
-  at_kind : (m : ℕ) → kind_at t i ≡ m → tail_here ≡ tail_part m loops (head_at t i) under (λ v. tail loops v under)
-  unfolding head_at
-  at_kind m e = ap (λ (x : ℕ). tail_part x loops (head_at t i) under (λ v. tail loops v under)) e
+  at_kind : (m : ℕ) → kind_at t i ≡ m → tail_here ≡ tail_part m loops (node_head t i) under (λ v. tail loops v under)
+  unfolding node_head
+  at_kind m e = ap (λ (x : ℕ). tail_part x loops (node_head t i) under (λ v. tail loops v under)) e
 
-  pub check_continue : (p : Page) {q : Page} → kind_at t i ≡ 2 → q ≡ writes p (listed loops (plainly 11 (head_at t i) ∷ []) []) → q ≡ writes p tail_here
-  unfolding head_at
+  pub check_continue : (p : Page) {q : Page} → kind_at t i ≡ 2 → q ≡ writes p (listed loops (plainly 11 (node_head t i) ∷ []) []) → q ≡ writes p tail_here
+  unfolding node_head
   check_continue p e w =
       w ∙ ap (writes p) (sym (at_kind 2 e))
 
   pub check_return : (p : Page) {q : Page} → kind_at t i ≡ 4 → q ≡ writes p bare_here → q ≡ writes p tail_here
-  unfolding head_at
+  unfolding node_head
   check_return p e w = w ∙ ap (writes p) (sym (at_kind 4 e))
 
   pub check_list : (p : Page) {q : Page} {e : ℕ} → e ≡ i + size_at t i → kind_at t i ≡ 8 → q ≡ writes p (tail loops 0 (forest_of t (i + 1) e)) → q ≡ writes p tail_here
@@ -82,8 +82,8 @@ module _ (loops : Bool) (t : List ℕ) (i : ℕ) where
 
   pub check_other : (p : Page) → (kind_at t i ≡ 2 → ⊥) → (kind_at t i ≡ 4 → ⊥) → (kind_at t i ≡ 8 → ⊥) → (kind_at t i ≡ 9 → ⊥) → (kind_at t i ≡ 10 → ⊥)
       → p ≡ writes p tail_here
-  unfolding head_at
-  check_other p a b c d e = wrote_none p (tail_other loops (head_at t i) under (λ v. tail loops v under) a b c d e)
+  unfolding node_head
+  check_other p a b c d e = wrote_none p (tail_other loops (node_head t i) under (λ v. tail loops v under) a b c d e)
 
 module _ (loops : Bool) (r : ℕ) {t : List ℕ} {i e j : ℕ} (p : Part t i e) (l : Last t r i e j) where
   pub last_whole : j < e → Subtree t j
@@ -100,10 +100,10 @@ module _ (loops : Bool) (r : ℕ) {t : List ℕ} {i e j : ℕ} (p : Part t i e) 
 
 module _ (t : List ℕ) (i : ℕ) where
   abbrev pub body_here : List Rec
-  body_here = redundant_part (head_at t i).kind (forest_of t (i + 1) (i + size_at t i))
+  body_here = redundant_part (node_head t i).kind (forest_of t (i + 1) (i + size_at t i))
 
   body_kind : (m : ℕ) → kind_at t i ≡ m → body_here ≡ redundant_part m (forest_of t (i + 1) (i + size_at t i))
-  unfolding head_at
+  unfolding node_head
   body_kind m e = ap (λ (x : ℕ). redundant_part x (forest_of t (i + 1) (i + size_at t i))) e
 
   pub body_for : (p : Page) {q : Page} {e : ℕ} → e ≡ i + size_at t i → kind_at t i ≡ 11 → q ≡ writes p (tail true 1 (forest_of t (i + 1) e)) → q ≡ writes p body_here
@@ -113,8 +113,8 @@ module _ (t : List ℕ) (i : ℕ) where
   body_def p a e w = w ∙ rw a (ap (writes p) (sym (body_kind 12 e)))
 
   pub body_other : (p : Page) → (kind_at t i ≡ 11 → ⊥) → (kind_at t i ≡ 12 → ⊥) → p ≡ writes p body_here
-  unfolding head_at
-  body_other p a b = wrote_none p (redundant_other (head_at t i) (forest_of t (i + 1) (i + size_at t i)) a b)
+  unfolding node_head
+  body_other p a b = wrote_none p (redundant_other (node_head t i) (forest_of t (i + 1) (i + size_at t i)) a b)
 
 abbrev Below : Head → Forest → List Rec
 Below h k = redundant_part h.kind k ++ redundant_walk k

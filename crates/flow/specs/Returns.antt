@@ -3,7 +3,7 @@
 use Rattle.std.specs.Prelude.{ℕ, ◌+◌, ◌≤◌, ◌<◌, ◌≡◌, cond, List, [], ◌∷◌, eqb, ltb}
 use Rattle.std.proofs.Math.Option.{Option, none, some}
 use Rattle.tree.specs.Bytes.{kind_at, size_at}
-use Rattle.tree.specs.Forest.{Head, Forest, Forest.none as leaf, node, head_at, forest_of}
+use Rattle.tree.specs.Forest.{Head, Forest, Forest.none as leaf, node, node_head, forest_of}
 use Rattle.tree.specs.code.Part.{Part}
 use Rattle.tree.specs.code.Find.{kid_of}
 use Rattle.tree.specs.Children.{many}
@@ -28,7 +28,7 @@ last_node r (node h k s) = later_of (last_node r s) (cond (eqb r h.role) (node h
 
 -- node j with what is below it, where j is below e
 unfoldable pub node_if : List ℕ → ℕ → ℕ → Forest
-node_if t j e = cond (ltb j e) (node (head_at t j) (forest_of t (j + 1) (j + size_at t j)) leaf) leaf
+node_if t j e = cond (ltb j e) (node (node_head t j) (forest_of t (j + 1) (j + size_at t j)) leaf) leaf
 
 -- j is the last of the siblings from node i up to e that has role r; not below e where there is none
 pub record Last (t : List ℕ) (r i e j : ℕ) : Type 0 where
@@ -61,7 +61,7 @@ pub record DefAt (t : List ℕ) (i : ℕ) : Type 0 where
 
 -- the head of node j; 65536, which is no node's number, stands for none
 unfoldable pub head_if : List ℕ → ℕ → Option Head
-head_if t j = cond (ltb j 65536) (some (head_at t j)) none
+head_if t j = cond (ltb j 65536) (some (node_head t j)) none
 
 -- what a node is itself among the returns
 unfoldable pub own : Head → Forest → List Return

@@ -1,7 +1,7 @@
 // The fifth walk: 13 for an expression without effect as a statement.
 ghost use Rattle.std.specs.Prelude.{◌≡◌, ◌+◌, ◌<◌};
 ghost use Rattle.tree.specs.Bytes.{size_at};
-ghost use Rattle.tree.specs.Forest.{head_at, forest_of};
+ghost use Rattle.tree.specs.Forest.{node_head, forest_of};
 ghost use Rattle.tree.specs.code.Part.{Part, Subtree};
 ghost use Rattle.rules.specs.Flow.{effect, effect_walk};
 ghost use Rattle.answer.specs.Page.{writes, page};
@@ -15,7 +15,7 @@ use tree::children::child_of;
 
 // Node j has effect by itself: a string literal, and what is no literal, ellipsis, lambda, conditional, tuple, list or dict.
 fn acts(t: &[u8], strings: &[bool; 512], j: usize) -> bool
-    ensures { result ≡ acting strings.now (head_at t.now j) }
+    ensures { result ≡ acting strings.now (node_head t.now j) }
 {
     let k = kind_at(t, j);
     if k == 21 {
@@ -66,7 +66,7 @@ fn has_effect(t: &[u8], strings: &[bool; 512], i: usize, e: usize) -> bool
 
 fn idle(t: &[u8], strings: &[bool; 512], i: usize, out: &mut [u32], s: Sheet) -> Sheet
     requires { Subtree t.now i × Stated t.now i }
-    ensures { page out.new result ≡ writes (page out.old s) (idle_at strings.now (head_at t.now i) (forest_of t.now (i + 1) (i + size_at t.now i))) }
+    ensures { page out.new result ≡ writes (page out.old s) (idle_at strings.now (node_head t.now i) (forest_of t.now (i + 1) (i + size_at t.now i))) }
 {
     if kind_at(t, i) != 5 {
         return s;

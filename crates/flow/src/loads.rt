@@ -1,7 +1,7 @@
 // The fourth walk: 12 for a load after anything but loads and string literals.
 ghost use Rattle.std.specs.Prelude.{◌≡◌, true, ◌+◌, ◌<◌};
 ghost use Rattle.tree.specs.Bytes.{size_at};
-ghost use Rattle.tree.specs.Forest.{head_at, forest_of};
+ghost use Rattle.tree.specs.Forest.{node_head, forest_of};
 ghost use Rattle.tree.specs.code.Part.{Part, Subtree};
 ghost use Rattle.rules.specs.Flow.{string_stated, loads};
 ghost use Rattle.answer.specs.Page.{writes, page};
@@ -36,7 +36,7 @@ fn is_text(t: &[u8], strings: &[bool; 512], i: usize, e: usize) -> bool
 // Whether loads are allowed after the statement at node j.
 fn allows(t: &[u8], strings: &[bool; 512], allowed: bool, j: usize) -> bool
     requires { Subtree t.now j }
-    ensures { result ≡ (load_at strings.now allowed (head_at t.now j) (forest_of t.now (j + 1) (j + size_at t.now j))).may }
+    ensures { result ≡ (load_at strings.now allowed (node_head t.now j) (forest_of t.now (j + 1) (j + size_at t.now j))).may }
 {
     let k = kind_at(t, j);
     if k == 8 {
@@ -61,7 +61,7 @@ fn load(
     out: &mut [u32],
     s: Sheet,
 ) -> Sheet
-    ensures { page out.new result ≡ writes (page out.old s) (load_at strings.now allowed (head_at t.now j) (forest_of t.now (j + 1) (j + size_at t.now j))).recs }
+    ensures { page out.new result ≡ writes (page out.old s) (load_at strings.now allowed (node_head t.now j) (forest_of t.now (j + 1) (j + size_at t.now j))).recs }
 {
     if kind_at(t, j) != 13 {
         return s;

@@ -1,7 +1,7 @@
 // The second walk: 9 for the first statement after one that aborts.
 ghost use Rattle.std.specs.Prelude.{◌≡◌, ◌&&◌, ◌||◌, not, [], ◌+◌, ◌≤◌, eqb, ltb};
 ghost use Rattle.tree.specs.Bytes.{size_at};
-ghost use Rattle.tree.specs.Forest.{head_at, forest_of};
+ghost use Rattle.tree.specs.Forest.{node_head, forest_of};
 ghost use Rattle.tree.specs.code.Part.{Part, Subtree};
 ghost use Rattle.rules.specs.Record.{listed};
 ghost use Rattle.rules.specs.Flow.{reached, reached_part, after_stop, in_List as in-a-list, one_by_one as each-one, only, both as both_of};
@@ -37,7 +37,7 @@ fn stops(k: usize) -> bool
 #[cycle(reaching)]
 fn reachable(t: &[u8], fail: usize, i: usize, out: &mut [u32], s: Sheet) -> Reached
     requires { Subtree t.now i }
-    ensures { Walked out.old out.new s result.sheet result.aborts (reached_part (is_name fail) (head_at t.now i).kind (forest_of t.now (i + 1) (i + size_at t.now i)) (λ v. reached (is_name fail) v (forest_of t.now (i + 1) (i + size_at t.now i)))) }
+    ensures { Walked out.old out.new s result.sheet result.aborts (reached_part (is_name fail) (node_head t.now i).kind (forest_of t.now (i + 1) (i + size_at t.now i)) (λ v. reached (is_name fail) v (forest_of t.now (i + 1) (i + size_at t.now i)))) }
 {
     let k = kind_at(t, i);
     let e = i + size_at(t, i);

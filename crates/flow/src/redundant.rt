@@ -1,7 +1,7 @@
 // The third walk: 10 for a bare return last in a def's body, 11 for a continue last in a for's.
 ghost use Rattle.std.specs.Prelude.{◌≡◌, ◌&&◌, not, [], ◌∷◌, ◌++◌, ◌+◌, ◌≤◌};
 ghost use Rattle.tree.specs.Bytes.{size_at};
-ghost use Rattle.tree.specs.Forest.{head_at, forest_of};
+ghost use Rattle.tree.specs.Forest.{node_head, forest_of};
 ghost use Rattle.tree.specs.code.Part.{Part, Subtree};
 ghost use Rattle.rules.specs.Record.{plainly, listed};
 ghost use Rattle.rules.specs.Visit.{has};
@@ -15,7 +15,7 @@ use tree::children::child_of;
 
 // 11 where node i is a continue that ends a loop's body.
 fn continues(t: &[u8], loops: bool, i: usize, out: &mut [u32], s: Sheet) -> Sheet
-    ensures { page out.new result ≡ writes (page out.old s) (listed loops (plainly 11 (head_at t.now i) ∷ []) []) }
+    ensures { page out.new result ≡ writes (page out.old s) (listed loops (plainly 11 (node_head t.now i) ∷ []) []) }
 {
     if loops {
         return put_plainly(t, out, s, 11, i);
@@ -26,7 +26,7 @@ fn continues(t: &[u8], loops: bool, i: usize, out: &mut [u32], s: Sheet) -> Shee
 // 10 where node i, a return, is bare and ends a def's body.
 fn bare(t: &[u8], loops: bool, i: usize, out: &mut [u32], s: Sheet) -> Sheet
     requires { Subtree t.now i }
-    ensures { page out.new result ≡ writes (page out.old s) (listed (not loops && not (has 4 (forest_of t.now (i + 1) (i + size_at t.now i)))) (plainly 10 (head_at t.now i) ∷ []) []) }
+    ensures { page out.new result ≡ writes (page out.old s) (listed (not loops && not (has 4 (forest_of t.now (i + 1) (i + size_at t.now i)))) (plainly 10 (node_head t.now i) ∷ []) []) }
 {
     if loops {
         return s;
@@ -42,7 +42,7 @@ fn bare(t: &[u8], loops: bool, i: usize, out: &mut [u32], s: Sheet) -> Sheet
 #[cycle(checking)]
 fn check(t: &[u8], loops: bool, i: usize, out: &mut [u32], s: Sheet) -> Sheet
     requires { Subtree t.now i }
-    ensures { page out.new result ≡ writes (page out.old s) (tail_part (head_at t.now i).kind loops (head_at t.now i) (forest_of t.now (i + 1) (i + size_at t.now i)) (λ v. tail loops v (forest_of t.now (i + 1) (i + size_at t.now i)))) }
+    ensures { page out.new result ≡ writes (page out.old s) (tail_part (node_head t.now i).kind loops (node_head t.now i) (forest_of t.now (i + 1) (i + size_at t.now i)) (λ v. tail loops v (forest_of t.now (i + 1) (i + size_at t.now i)))) }
 {
     let k = kind_at(t, i);
     let e = i + size_at(t, i);
@@ -89,7 +89,7 @@ fn last(t: &[u8], loops: bool, r: usize, i: usize, e: usize, out: &mut [u32], s:
 // What node i's body ends with, where it is a for or a def.
 fn body(t: &[u8], i: usize, out: &mut [u32], s: Sheet) -> Sheet
     requires { Subtree t.now i }
-    ensures { page out.new result ≡ writes (page out.old s) (redundant_part (head_at t.now i).kind (forest_of t.now (i + 1) (i + size_at t.now i))) }
+    ensures { page out.new result ≡ writes (page out.old s) (redundant_part (node_head t.now i).kind (forest_of t.now (i + 1) (i + size_at t.now i))) }
 {
     let k = kind_at(t, i);
     let e = i + size_at(t, i);

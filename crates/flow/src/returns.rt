@@ -1,7 +1,7 @@
 // The first walk: 8 for a def that wants a value and may end without one, then 7 for each bare return of it.
 ghost use Rattle.std.specs.Prelude.{◌≡◌, Bool, ◌&&◌, not, [], ◌∷◌, ℕ, ◌+◌, ◌≤◌, eqb};
 ghost use Rattle.tree.specs.Bytes.{kind_at, size_at, pick};
-ghost use Rattle.tree.specs.Forest.{spot_at, head_at, forest_of};
+ghost use Rattle.tree.specs.Forest.{node_spot, node_head, forest_of};
 ghost use Rattle.tree.specs.code.Part.{Part, Subtree};
 ghost use Rattle.rules.specs.Record.{listed};
 ghost use Rattle.rules.specs.Visit.{has};
@@ -104,7 +104,7 @@ fn missing_return(
     s: Sheet,
 ) -> Sheet
     requires { Subtree t.now i }
-    ensures { page out.new result ≡ writes (page out.old s) (listed (not (ends (λ v. eqb v fail) 1 (forest_of t.now (i + 1) (i + size_at t.now i)))) (missing (head_at t.now i) (spot_at t.now name) (head_at t.now why) ∷ []) []) }
+    ensures { page out.new result ≡ writes (page out.old s) (listed (not (ends (λ v. eqb v fail) 1 (forest_of t.now (i + 1) (i + size_at t.now i)))) (missing (node_head t.now i) (node_spot t.now name) (node_head t.now why) ∷ []) []) }
 {
     if final_return(t, fail, 1, i + 1, i + size_at(t, i)) {
         return s;
@@ -134,7 +134,7 @@ fn bare_return(
     s: Sheet,
 ) -> Sheet
     requires { Subtree t.now j }
-    ensures { page out.new result ≡ writes (page out.old s) (bare_recs (head_at t.now i) (spot_at t.now name) (head_at t.now why) (own (head_at t.now j) (forest_of t.now (j + 1) (j + size_at t.now j)))) }
+    ensures { page out.new result ≡ writes (page out.old s) (bare_recs (node_head t.now i) (node_spot t.now name) (node_head t.now why) (own (node_head t.now j) (forest_of t.now (j + 1) (j + size_at t.now j)))) }
 {
     if kind_at(t, j) != 4 {
         return s;
@@ -168,7 +168,7 @@ fn bare_returns(
     s: Sheet,
 ) -> Sheet
     requires { Tidy t.now b e }
-    ensures { page out.new result ≡ writes (page out.old s) (bare_recs (head_at t.now i) (spot_at t.now name) (head_at t.now why) (returns everything (forest_of t.now b e))) }
+    ensures { page out.new result ≡ writes (page out.old s) (bare_recs (node_head t.now i) (node_spot t.now name) (node_head t.now why) (returns everything (forest_of t.now b e))) }
 {
     let mut r = s;
     let mut j = b;
@@ -182,7 +182,7 @@ fn bare_returns(
 // The def at node i, which wants a value because of node why.
 fn check_for(t: &[u8], fail: usize, i: usize, why: usize, out: &mut [u32], s: Sheet) -> Sheet
     requires { DefAt t.now i }
-    ensures { (is_none : ℕ → Bool) → page out.new result ≡ writes (page out.old s) (check_for (λ v. eqb v fail) is_none (head_at t.now i) (forest_of t.now (i + 1) (i + size_at t.now i)) (head_if t.now why)) }
+    ensures { (is_none : ℕ → Bool) → page out.new result ≡ writes (page out.old s) (check_for (λ v. eqb v fail) is_none (node_head t.now i) (forest_of t.now (i + 1) (i + size_at t.now i)) (head_if t.now why)) }
 {
     if NONE <= why {
         return s;
@@ -196,7 +196,7 @@ fn check_for(t: &[u8], fail: usize, i: usize, why: usize, out: &mut [u32], s: Sh
 
 fn check_stmt(t: &[u8], fail: usize, none: usize, i: usize, out: &mut [u32], s: Sheet) -> Sheet
     requires { TidyAt t.now i }
-    ensures { page out.new result ≡ writes (page out.old s) (check (λ v. eqb v fail) (λ v. eqb v none) (head_at t.now i).kind (head_at t.now i) (forest_of t.now (i + 1) (i + size_at t.now i))) }
+    ensures { page out.new result ≡ writes (page out.old s) (check (λ v. eqb v fail) (λ v. eqb v none) (node_head t.now i).kind (node_head t.now i) (forest_of t.now (i + 1) (i + size_at t.now i))) }
 {
     if kind_at(t, i) != 12 {
         return s;

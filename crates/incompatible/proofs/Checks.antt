@@ -9,7 +9,7 @@ use lib.Dec.{eqb, leb}
 use lib.ListN.{length, get_or}
 use borrow.Author.Tests.{eq-eqb, ne_eqb, le-leb, lt-leb}
 use Rattle.tree.specs.Bytes.{kind_at, role_at, size_at, value_at}
-use Rattle.tree.specs.Forest.{Spot, Head, Forest, none, node, spot_at, head_at, forest_of}
+use Rattle.tree.specs.Forest.{Spot, Head, Forest, none, node, node_spot, node_head, forest_of}
 use Rattle.tree.specs.code.Part.{Part, Subtree}
 use Rattle.tree.specs.code.Find.{child_of, from_role}
 use Rattle.tree.proofs.Search.{clash}
@@ -46,13 +46,13 @@ or_true false = refl
 -- ---- the first child of a role, at c
 
 module _ (r : ℕ) {t : List ℕ} {i e c : ℕ} (part : Part t i e) (le : i ≤ e) (ec : c ≡ child_of t r i e) where
-  pub head_is : c < e → head_at r (forest_of t i e) ≡ head_at t c
+  pub head_is : c < e → head_at r (forest_of t i e) ≡ node_head t c
   head_is h = head_there r part le (rw ec at h) ∙ rw ec
 
   pub kind_is : c < e → kind_among r (forest_of t i e) ≡ kind_at t c
   kind_is h = kind_there r part le (rw ec at h) ∙ rw ec
 
-  pub spot_is : c < e → spot_at r (forest_of t i e) ≡ spot_at t c
+  pub spot_is : c < e → spot_at r (forest_of t i e) ≡ node_spot t c
   spot_is h = place_there r part le (rw ec at h) ∙ rw ec
 
   pub under_is : c < e → under r (forest_of t i e) ≡ forest_of t (c + 1) (c + size_at t c)
@@ -72,7 +72,7 @@ module _ (r : ℕ) {t : List ℕ} {i e c : ℕ} (part : Part t i e) (le : i ≤ 
     ident_other h k = rw (kind_is h, not_eqb k)
 
     pub ident_is : c < e → kind_at t c ≡ 20 → q (value_at t c) ≡ identifier r q (forest_of t i e)
-    unfolding spot_at
+    unfolding node_spot
     ident_is h k = rw (kind_is h, k, spot_is h)
 
   -- ---- how many have the role
@@ -91,7 +91,7 @@ module _ (r : ℕ) {t : List ℕ} {i e c : ℕ} (part : Part t i e) (le : i ≤ 
   tally_absent h = tally_from (forest_of t i e) ∙ rw (child_none part r (rw ec at h))
 
   pub tally_there : c < e → how_many r (forest_of t i e) ≡ suc (how_many r (forest_of t (c + size_at t c) e))
-  unfolding head_at
+  unfolding node_head
   tally_there h =
       let l : child_of t r i e < e = rw ec at h in
       tally_from (forest_of t i e)
@@ -153,10 +153,10 @@ and_assoc false b c d = refl
 
 module _ (names : Types) (t : List ℕ) (i : ℕ) (p : Page) where
   abbrev pub check_recs : List Rec
-  check_recs = check_at (is names.call) (five names) (head_at t i) (forest_of t (i + 1) (i + size_at t i))
+  check_recs = check_at (is names.call) (five names) (node_head t i) (forest_of t (i + 1) (i + size_at t i))
 
   pub check_no : false ≡ (eqb 31 (kind_at t i) || eqb 32 (kind_at t i)) → p ≡ writes p check_recs
-  unfolding head_at
+  unfolding node_head
   check_no b = rw (sym b) (sym (writes_none p))
 
   module _ {e : ℕ} (ee : e ≡ i + size_at t i) where
@@ -171,7 +171,7 @@ module _ (names : Types) (t : List ℕ) (i : ℕ) (p : Page) where
         (identifier 2 (five names) (forest_of t (i + 1) (i + size_at t i)))))
 
     check_other : type_call names.call (forest_of t (i + 1) e) && identifier 2 (five names) (forest_of t (i + 1) e) ≡ false → p ≡ writes p check_recs
-    unfolding head_at
+    unfolding node_head
     check_other b = rw (whole_check ∙ b, and_false (eqb 31 (kind_at t i) || eqb 32 (kind_at t i))) (sym (writes_none p))
 
     pub check_left : false ≡ type_call names.call (forest_of t (i + 1) e) → p ≡ writes p check_recs
@@ -182,13 +182,13 @@ module _ (names : Types) (t : List ℕ) (i : ℕ) (p : Page) where
 
     pub check_put : {c : ℕ} → c ≡ child_of t 2 (i + 1) e → Subtree t i → true ≡ (eqb 31 (kind_at t i) || eqb 32 (kind_at t i))
         → true ≡ type_call names.call (forest_of t (i + 1) e) → true ≡ identifier 2 (five names) (forest_of t (i + 1) e) → {q : Page}
-        → q ≡ write p (valued_at 14 (head_at t i) (spot_at t c).value) → q ≡ writes p check_recs
-    unfolding head_at
+        → q ≡ write p (valued_at 14 (node_head t i) (node_spot t c).value) → q ≡ writes p check_recs
+    unfolding node_head
     check_put {c} ec w a b d u =
         let part : Part t (i + 1) e = rw ee (kids w.part (omega (arith, w.some))) in
         let le : i + 1 ≤ e = omega (arith, w.some) in
         let z : type_check (is names.call) (five names) (forest_of t (i + 1) (i + size_at t i)) ≡ true = whole_check ∙ rw (sym b, sym d) in
-        let y : spot_at 2 (forest_of t (i + 1) (i + size_at t i)) ≡ spot_at t c
+        let y : spot_at 2 (forest_of t (i + 1) (i + size_at t i)) ≡ node_spot t c
         = rw (sym ee) (spot_is 2 part le ec (there 2 (five names) part le ec d)) in
         rw (sym a, z, y) (u ∙ sym (writes_one p _))
 
@@ -198,7 +198,7 @@ each_cons : (f : Head → Forest → List Rec) (h : Head) (k s : Forest) → eac
 each_cons f h k s = sym (append_assoc (f h k) (each f k) (each f s))
 
 pub each_next : (f : Head → Forest → List Rec) {t : List ℕ} {i n : ℕ} → Part t i n → i < n
-    → each f (forest_of t i n) ≡ f (head_at t i) (forest_of t (i + 1) (i + size_at t i)) ++ each f (forest_of t (i + 1) n)
+    → each f (forest_of t i n) ≡ f (node_head t i) (forest_of t (i + 1) (i + size_at t i)) ++ each f (forest_of t (i + 1) n)
 each_next f p lt = next (each f) (λ h k. f h k ++ each f k) refl (each_cons f) f (λ h k. refl) p lt
 
 pub each_past : (f : Head → Forest → List Rec) (t : List ℕ) (i n : ℕ) → n ≤ i → each f (forest_of t i n) ≡ []

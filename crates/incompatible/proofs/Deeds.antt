@@ -10,7 +10,7 @@ use lib.ListN.{length}
 use borrow.Author.Tests.{eq-eqb, ne_eqb}
 use Rattle.tree.specs.Bytes.{kind_at, role_at, size_at, value_at, pick}
 use Rattle.tree.specs.Nodes.{holds_name}
-use Rattle.tree.specs.Forest.{Spot, Head, Forest, none, node, spot_at, head_at, forest_of}
+use Rattle.tree.specs.Forest.{Spot, Head, Forest, none, node, node_spot, node_head, forest_of}
 use Rattle.tree.specs.code.Part.{Part, Subtree}
 use Rattle.tree.specs.code.Find.{child_of}
 use Rattle.tree.proofs.Search.{clash}
@@ -80,7 +80,7 @@ named_cons r h k s = go (eqb r h.role) (deed_part (bind_of h) h (λ v. defined_n
     go false xs = refl
 
 pub named_over : (r : ℕ) {t : List ℕ} {i e : ℕ} → Part t i e → i < e
-    → defined_names r (forest_of t i e) ≡ named_one r (head_at t i) (forest_of t (i + 1) (i + size_at t i)) ++ defined_names r (forest_of t (i + size_at t i) e)
+    → defined_names r (forest_of t i e) ≡ named_one r (node_head t i) (forest_of t (i + 1) (i + size_at t i)) ++ defined_names r (forest_of t (i + size_at t i) e)
 named_over r p lt = over (defined_names r) (named_one r) refl (named_cons r) p lt
 
 pub named_past : (r : ℕ) (t : List ℕ) (i e : ℕ) → e ≤ i → defined_names r (forest_of t i e) ≡ []
@@ -98,9 +98,9 @@ named_down h k = go (eqb 0 h.role) (ℕ_discrete h.kind 41)
 
 -- node j, and what stands where the walk goes on
 pub below_step : {t : List ℕ} {j e : ℕ} → Part t j e → j < e
-    → defined_names 0 (forest_of t j e) ≡ below_one (head_at t j) ++ defined_names 0 (forest_of t (pick (is_several (head_at t j)) (j + 1) (j + size_at t j)) e)
+    → defined_names 0 (forest_of t j e) ≡ below_one (node_head t j) ++ defined_names 0 (forest_of t (pick (is_several (node_head t j)) (j + 1) (j + size_at t j)) e)
 below_step {t} {j} {e} p lt =
-    named_over 0 p lt ∙ rw (named_down (head_at t j) (forest_of t (j + 1) (j + size_at t j)), append_assoc) (ap (λ (l : List Deed). below_one (head_at t j) ++ l) (go (is_several (head_at t j))))
+    named_over 0 p lt ∙ rw (named_down (node_head t j) (forest_of t (j + 1) (j + size_at t j)), append_assoc) (ap (λ (l : List Deed). below_one (node_head t j) ++ l) (go (is_several (node_head t j))))
   where
     go : (b : Bool) → pick b (defined_names 0 (forest_of t (j + 1) (j + size_at t j))) [] ++ defined_names 0 (forest_of t (j + size_at t j) e)
         ≡ defined_names 0 (forest_of t (pick b (j + 1) (j + size_at t j)) e)
@@ -119,49 +119,49 @@ inside t j = forest_of t (j + 1) (j + size_at t j)
 -- ---- one node of a role: the words o, what is defined d before; after it o' and r
 
 module _ (t o : List ℕ) (d : Defined) (role j : ℕ) (f : Forest) where
-  pub role_other : (role_at t j ≡ role → ⊥) → Does t o d (named_one role (head_at t j) f) o d
-  unfolding head_at
+  pub role_other : (role_at t j ≡ role → ⊥) → Does t o d (named_one role (node_head t j) f) o d
+  unfolding node_head
   role_other h = rw (not_eqb h) (does_none t o d)
 
   module _ (er : role_at t j ≡ role) where
-    pub role_none : (kind_at t j ≡ 41 → ⊥) → false ≡ bound (kind_at t j) → Does t o d (named_one role (head_at t j) f) o d
-    unfolding head_at
-    role_none n b = rw (eq-eqb role (role_at t j) (sym er), binds_none (kind_at t j) (head_at t j) (λ v. defined_names v f) b n) (does_none t o d)
+    pub role_none : (kind_at t j ≡ 41 → ⊥) → false ≡ bound (kind_at t j) → Does t o d (named_one role (node_head t j) f) o d
+    unfolding node_head
+    role_none n b = rw (eq-eqb role (role_at t j) (sym er), binds_none (kind_at t j) (node_head t j) (λ v. defined_names v f) b n) (does_none t o d)
 
     module _ (o' : List ℕ) (r : Defined) where
-      pub role_several : kind_at t j ≡ 41 → Does t o d (defined_names 0 f) o' r → Does t o d (named_one role (head_at t j) f) o' r
-      unfolding head_at
+      pub role_several : kind_at t j ≡ 41 → Does t o d (defined_names 0 f) o' r → Does t o d (named_one role (node_head t j) f) o' r
+      unfolding node_head
       role_several k w = rw (eq-eqb role (role_at t j) (sym er), k, append-nil) w
 
-      pub role_one : true ≡ bound (kind_at t j) → Does t o d (defines (eqb (kind_at t j) 47) (head_at t j) ∷ []) o' r → Does t o d (named_one role (head_at t j) f) o' r
-      unfolding head_at
-      role_one b w = rw (eq-eqb role (role_at t j) (sym er), binds_one (kind_at t j) (head_at t j) (λ v. defined_names v f) b) w
+      pub role_one : true ≡ bound (kind_at t j) → Does t o d (defines (eqb (kind_at t j) 47) (node_head t j) ∷ []) o' r → Does t o d (named_one role (node_head t j) f) o' r
+      unfolding node_head
+      role_one b w = rw (eq-eqb role (role_at t j) (sym er), binds_one (kind_at t j) (node_head t j) (λ v. defined_names v f) b) w
 
 module _ (t o : List ℕ) (d : Defined) (j : ℕ) where
-  pub below_other : (role_at t j ≡ 0 → ⊥) → Does t o d (below_one (head_at t j)) o d
-  unfolding head_at
+  pub below_other : (role_at t j ≡ 0 → ⊥) → Does t o d (below_one (node_head t j)) o d
+  unfolding node_head
   below_other h = rw (not_eqb h) (does_none t o d)
 
-  pub below_none : role_at t j ≡ 0 → false ≡ bound (kind_at t j) → Does t o d (below_one (head_at t j)) o d
-  unfolding head_at
-  below_none er b = rw (eq-eqb 0 (role_at t j) (sym er), binds_below (kind_at t j) (head_at t j) b) (does_none t o d)
+  pub below_none : role_at t j ≡ 0 → false ≡ bound (kind_at t j) → Does t o d (below_one (node_head t j)) o d
+  unfolding node_head
+  below_none er b = rw (eq-eqb 0 (role_at t j) (sym er), binds_below (kind_at t j) (node_head t j) b) (does_none t o d)
 
   pub below_name : (o' : List ℕ) (r : Defined) → role_at t j ≡ 0 → true ≡ bound (kind_at t j)
-      → Does t o d (defines (eqb (kind_at t j) 47) (head_at t j) ∷ []) o' r → Does t o d (below_one (head_at t j)) o' r
-  unfolding head_at
-  below_name o' r er b w = rw (eq-eqb 0 (role_at t j) (sym er), binds_one (kind_at t j) (head_at t j) (λ v. []) b) w
+      → Does t o d (defines (eqb (kind_at t j) 47) (node_head t j) ∷ []) o' r → Does t o d (below_one (node_head t j)) o' r
+  unfolding node_head
+  below_name o' r er b w = rw (eq-eqb 0 (role_at t j) (sym er), binds_one (kind_at t j) (node_head t j) (λ v. []) b) w
 
 module _ (t : List ℕ) (j : ℕ) where
-  pub several_yes : role_at t j ≡ 0 → kind_at t j ≡ 41 → is_several (head_at t j) ≡ true
-  unfolding head_at
+  pub several_yes : role_at t j ≡ 0 → kind_at t j ≡ 41 → is_several (node_head t j) ≡ true
+  unfolding node_head
   several_yes a b = rw (a, b)
 
-  pub several_other : (kind_at t j ≡ 41 → ⊥) → is_several (head_at t j) ≡ false
-  unfolding head_at
+  pub several_other : (kind_at t j ≡ 41 → ⊥) → is_several (node_head t j) ≡ false
+  unfolding node_head
   several_other n = rw (not_eqb n) (and_false (eqb 0 (role_at t j)))
 
-  pub several_role : (role_at t j ≡ 0 → ⊥) → is_several (head_at t j) ≡ false
-  unfolding head_at
+  pub several_role : (role_at t j ≡ 0 → ⊥) → is_several (node_head t j) ≡ false
+  unfolding node_head
   several_role n = rw (not_eqb n)
 
 -- ---- x = x: the first child of role 5 at x, of role 4 at y
@@ -181,7 +181,7 @@ module _ {t : List ℕ} {i e x y : ℕ} (part : Part t i e) (le : i ≤ e) (ex :
     self_value n = rw (kind_is 4 part le ey hy, not_eqb n) (sym (and_false (eqb 40 (kind_among 5 (forest_of t i e)))))
 
     pub self_is : kind_at t x ≡ 40 → kind_at t y ≡ 20 → eqb (value_at t x) (value_at t y) ≡ self_set (forest_of t i e)
-    unfolding spot_at
+    unfolding node_spot
     self_is a b = rw (kind_is 5 part le ex hx, kind_is 4 part le ey hy, a, b, spot_is 5 part le ex hx, spot_is 4 part le ey hy)
 
   -- where it is, the target is there, and a name
@@ -204,7 +204,7 @@ self_asks {t} {i} {e} {x} part le ex l f =
 
 module _ (t : List ℕ) (i e : ℕ) (o : List ℕ) (d : Defined) (o' : List ℕ) (r : Defined) where
   pub assign_repeat : {x : ℕ} → Part t i e → i ≤ e → x ≡ child_of t 5 i e → true ≡ self_set (forest_of t i e)
-      → Does t o d (repeats (head_at t x) ∷ []) o' r → Does t o d (top_assign (forest_of t i e)) o' r
+      → Does t o d (repeats (node_head t x) ∷ []) o' r → Does t o d (top_assign (forest_of t i e)) o' r
   assign_repeat {x} part le ex f w = rw (sym f, head_is 5 part le ex (self_target part le ex refl f).0) w
 
   pub assign_named : false ≡ self_set (forest_of t i e) → Does t o d (defined_names 5 (forest_of t i e)) o' r → Does t o d (top_assign (forest_of t i e)) o' r
@@ -227,12 +227,12 @@ pub deeds_past : (t : List ℕ) (i e : ℕ) → e ≤ i → deeds (forest_of t i
 deeds_past t i e h = past deeds deeds_all refl (λ h k s. refl) t i e h
 
 pub deeds_step : {t : List ℕ} {i e : ℕ} → Part t i e → i < e
-    → deeds (forest_of t i e) ≡ deeds_one (head_at t i) (forest_of t (i + 1) (i + size_at t i)) ++ deeds (forest_of t (pick (goes_in (top_of (kind_at t i))) (i + 1) (i + size_at t i)) e)
-unfolding head_at
+    → deeds (forest_of t i e) ≡ deeds_one (node_head t i) (forest_of t (i + 1) (i + size_at t i)) ++ deeds (forest_of t (pick (goes_in (top_of (kind_at t i))) (i + 1) (i + size_at t i)) e)
+unfolding node_head
 deeds_step {t} {i} {e} p lt =
     over deeds deeds_all refl (λ h k s. refl) p lt
     ∙ rw (top_split (top_of (kind_at t i)) (forest_of t (i + 1) (i + size_at t i)) (deeds (forest_of t (i + 1) (i + size_at t i))), append_assoc)
-    (ap (λ (l : List Deed). deeds_one (head_at t i) (forest_of t (i + 1) (i + size_at t i)) ++ l) (go (goes_in (top_of (kind_at t i)))))
+    (ap (λ (l : List Deed). deeds_one (node_head t i) (forest_of t (i + 1) (i + size_at t i)) ++ l) (go (goes_in (top_of (kind_at t i)))))
   where
     go : (b : Bool) → pick b (deeds (forest_of t (i + 1) (i + size_at t i))) [] ++ deeds (forest_of t (i + size_at t i) e)
         ≡ deeds (forest_of t (pick b (i + 1) (i + size_at t i)) e)
@@ -264,23 +264,23 @@ other_none k f =
     ((λ x y z w. absurd (x refl)), ((λ x y z w. absurd (y refl)), ((λ x y z w. absurd (z refl)), ((λ x y z w. absurd (w refl)), ((λ x y z w. refl), ((λ x y z w. refl), ((λ x y z w. refl), ((λ x y z w. refl), tt)))))))) (λ x y z w. refl)
 
 module _ (t o : List ℕ) (d : Defined) (i : ℕ) (f : Forest) (o' : List ℕ) (r : Defined) where
-  pub stmt_assign : kind_at t i ≡ 6 → Does t o d (top_assign f) o' r → Does t o d (deeds_one (head_at t i) f) o' r
-  unfolding head_at
+  pub stmt_assign : kind_at t i ≡ 6 → Does t o d (top_assign f) o' r → Does t o d (deeds_one (node_head t i) f) o' r
+  unfolding node_head
   stmt_assign k w = rw k w
 
-  pub stmt_modify : kind_at t i ≡ 7 → Does t o d (defined_names 5 f) o' r → Does t o d (deeds_one (head_at t i) f) o' r
-  unfolding head_at
+  pub stmt_modify : kind_at t i ≡ 7 → Does t o d (defined_names 5 f) o' r → Does t o d (deeds_one (node_head t i) f) o' r
+  unfolding node_head
   stmt_modify k w = rw k w
 
-  pub stmt_def : kind_at t i ≡ 12 → Does t o d (defined_names 6 f) o' r → Does t o d (deeds_one (head_at t i) f) o' r
-  unfolding head_at
+  pub stmt_def : kind_at t i ≡ 12 → Does t o d (defined_names 6 f) o' r → Does t o d (deeds_one (node_head t i) f) o' r
+  unfolding node_head
   stmt_def k w = rw k w
 
-  pub stmt_load : kind_at t i ≡ 13 → Does t o d (defined_names 0 f) o' r → Does t o d (deeds_one (head_at t i) f) o' r
-  unfolding head_at
+  pub stmt_load : kind_at t i ≡ 13 → Does t o d (defined_names 0 f) o' r → Does t o d (deeds_one (node_head t i) f) o' r
+  unfolding node_head
   stmt_load k w = rw k w
 
 pub stmt_other : (t o : List ℕ) (d : Defined) (i : ℕ) (f : Forest) → (kind_at t i ≡ 6 → ⊥) → (kind_at t i ≡ 7 → ⊥) → (kind_at t i ≡ 12 → ⊥) → (kind_at t i ≡ 13 → ⊥)
-    → Does t o d (deeds_one (head_at t i) f) o d
-unfolding head_at
+    → Does t o d (deeds_one (node_head t i) f) o d
+unfolding node_head
 stmt_other t o d i f x y z w = rw (other_none (kind_at t i) f x y z w) (does_none t o d)

@@ -12,7 +12,7 @@ use lib.ListN.{length, get_or, set, replicate, length-replicate, get_or-replicat
 use lib.Seq.{get_or-set_same, get_or-set_other}
 use borrow.Author.Tests.{eq-eqb, ne_eqb}
 use Rattle.tree.specs.Bytes.{kind_at, value_at}
-use Rattle.tree.specs.Forest.{Head, spot_at, head_at}
+use Rattle.tree.specs.Forest.{Head, node_spot, node_head}
 use Rattle.rules.specs.Record.{Rec}
 use Rattle.rules.specs.Incompatible.{Deed, defines, repeats, First, first_of, was_free, free, defined, may_repeat, repeated, again}
 use Rattle.rules.specs.declared.Allowance.{Allowance}
@@ -85,8 +85,8 @@ module _ (t o : List ℕ) (d : Defined) (i v : ℕ) (ev : v ≡ value_at t i) wh
   -- a name that was not defined
   pub ident_new : (r : Defined) → v < length d.first → get_or d.first v 0 ≡ 0
       → r.allowed ≡ d.allowed → r.first ≡ set d.first v (i + 1) → r.exported ≡ d.exported → r.sheet ≡ d.sheet
-      → Does t o d (defines (eqb (kind_at t i) 47) (head_at t i) ∷ []) o r
-  unfolding tells after head_at spot_at
+      → Does t o d (defines (eqb (kind_at t i) 47) (node_head t i) ∷ []) o r
+  unfolding tells after node_head node_spot
   ident_new r h z e a b c =
       let y : get_or d.first (value_at t i) 0 ≡ 0 = rw ev at z in
       record {
@@ -95,16 +95,16 @@ module _ (t o : List ℕ) (d : Defined) (i v : ℕ) (ev : v ≡ value_at t i) wh
       }
     where
       go : (x : ℕ) (b : Bool) → first_by t (elim b [ true ↦ i + 1 | false ↦ get_or d.first x 0 ])
-          ≡ elim b [ true ↦ some (record { head = head_at t i; loaded = eqb (kind_at t i) 47 }) | false ↦ first_by t (get_or d.first x 0) ]
+          ≡ elim b [ true ↦ some (record { head = node_head t i; loaded = eqb (kind_at t i) 47 }) | false ↦ first_by t (get_or d.first x 0) ]
       go x true = rw add-one
       go x false = refl
 
   -- a name that was
   pub ident_again : (old : ℕ) (o' : List ℕ) (r : Defined) → old ≡ get_or d.first v 0 → (old ≡ 0 → ⊥)
       → r.allowed ≡ d.allowed → r.first ≡ d.first → r.exported ≡ d.exported
-      → page o' r.sheet ≡ write (page o d.sheet) (again (head_at t (old - 1)) (head_at t i))
-      → Does t o d (defines (eqb (kind_at t i) 47) (head_at t i) ∷ []) o' r
-  unfolding tells after head_at spot_at
+      → page o' r.sheet ≡ write (page o d.sheet) (again (node_head t (old - 1)) (node_head t i))
+      → Does t o d (defines (eqb (kind_at t i) 47) (node_head t i) ∷ []) o' r
+  unfolding tells after node_head node_spot
   ident_again old o' r z n e a b w =
       let y : get_or d.first (value_at t i) 0 ≡ suc (old - 1) = sym (rw ev at z) ∙ omega arith in
       record { wrote = rw y (w ∙ sym (writes_one (page o d.sheet) _)); then = rw (e, a, b, y) }
@@ -112,8 +112,8 @@ module _ (t o : List ℕ) (d : Defined) (i v : ℕ) (ev : v ≡ value_at t i) wh
   -- x = x that is free
   pub repeat_free : (r : Defined) → v < length d.exported → true ≡ free_now (ledger t d) v
       → r.allowed ≡ d.allowed → r.first ≡ d.first → r.exported ≡ set d.exported v true → r.sheet ≡ d.sheet
-      → Does t o d (repeats (head_at t i) ∷ []) o r
-  unfolding tells after head_at spot_at
+      → Does t o d (repeats (node_head t i) ∷ []) o r
+  unfolding tells after node_head node_spot
   repeat_free r h f e a b c =
       let y : free_now (ledger t d) (value_at t i) ≡ true = sym (rw ev at f) in
       record {
@@ -127,8 +127,8 @@ module _ (t o : List ℕ) (d : Defined) (i v : ℕ) (ev : v ≡ value_at t i) wh
 
   -- x = x that is not
   pub repeat_not : (o' : List ℕ) (r : Defined) → kind_at t i ≡ 40 → false ≡ free_now (ledger t d) v
-      → Does t o d (defines (eqb (kind_at t i) 47) (head_at t i) ∷ []) o' r → Does t o d (repeats (head_at t i) ∷ []) o' r
-  unfolding tells after head_at spot_at
+      → Does t o d (defines (eqb (kind_at t i) 47) (node_head t i) ∷ []) o' r → Does t o d (repeats (node_head t i) ∷ []) o' r
+  unfolding tells after node_head node_spot
   repeat_not o' r k f w =
       let y : free_now (ledger t d) (value_at t i) ≡ false = sym (rw ev at f) in
       let z : eqb (kind_at t i) 47 ≡ false = rw k in

@@ -3,7 +3,7 @@
 use Rattle.std.specs.Prelude.{ℕ, zero, suc, ◌+◌, ◌≡◌, List, [], ◌∷◌, ◌++◌, Bool, true, false, ◌&&◌, ◌||◌, eqb, get_or}
 use Rattle.std.proofs.Math.Option.{Option, none, some}
 use Rattle.tree.specs.Bytes.{kind_at}
-use Rattle.tree.specs.Forest.{Head, Forest, head_at}
+use Rattle.tree.specs.Forest.{Head, Forest, node_head}
 use Rattle.rules.specs.Record.{Rec, listed}
 use Rattle.rules.specs.Visit.{look}
 use Rattle.rules.specs.Order.{bind_of}
@@ -55,7 +55,7 @@ after (e ∷ es) k = after es (knows e k)
 
 abbrev pub first_by : List ℕ → ℕ → Option First
 first_by t zero = none
-first_by t (suc i) = some (record { head = head_at t i; loaded = eqb (kind_at t i) 47 })
+first_by t (suc i) = some (record { head = node_head t i; loaded = eqb (kind_at t i) 47 })
 
 abbrev pub ledger : List ℕ → Defined → Ledger
 ledger t d =

@@ -1,7 +1,7 @@
 // 15: a name that is assigned twice at the top level.
 ghost use Rattle.std.specs.Prelude.{◌≡◌, [], ◌∷◌, true, false, ◌||◌, ◌+◌, ◌≤◌, ◌<◌, eqb, get_or, set, replicate};
 ghost use Rattle.tree.specs.Bytes.{kind_at, size_at, value_at, pick};
-ghost use Rattle.tree.specs.Forest.{head_at, forest_of};
+ghost use Rattle.tree.specs.Forest.{node_head, forest_of};
 ghost use Rattle.tree.specs.code.Part.{Part, Subtree};
 ghost use Rattle.rules.specs.Incompatible.{again, repeated, defined_names, deeds, self_set, repeats, defines};
 ghost use Rattle.answer.specs.Page.{write, writes, page};
@@ -76,7 +76,7 @@ fn export(d: Defined, v: usize) -> Defined
 }
 
 fn put_again(t: &[u8], old: usize, i: usize, out: &mut [u32], s: Sheet) -> Sheet
-    ensures { page out.new result ≡ write (page out.old s) (again (head_at t.now old) (head_at t.now i)) }
+    ensures { page out.new result ≡ write (page out.old s) (again (node_head t.now old) (node_head t.now i)) }
 {
     put(
         t,
@@ -95,7 +95,7 @@ fn put_again(t: &[u8], old: usize, i: usize, out: &mut [u32], s: Sheet) -> Sheet
 // The name at node i is defined, or defined again.
 fn ident(t: &[u8], i: usize, out: &mut [u32], d: Defined) -> Defined
     requires { (value_at t.now i < 512) × (i < 1024) }
-    ensures { Does t.now out.old d (defines (eqb (kind_at t.now i) 47) (head_at t.now i) ∷ []) out.new result }
+    ensures { Does t.now out.old d (defines (eqb (kind_at t.now i) 47) (node_head t.now i) ∷ []) out.new result }
 {
     let v = value_at(t, i);
     let allowed = d.allowed;
@@ -147,7 +147,7 @@ fn binds(k: usize) -> bool
 // Below several: role 0 only.
 fn below_at(t: &[u8], j: usize, out: &mut [u32], d: Defined) -> Defined
     requires { Low t.now (j + 1) × (j < 1024) }
-    ensures { Does t.now out.old d (below_one (head_at t.now j)) out.new result }
+    ensures { Does t.now out.old d (below_one (node_head t.now j)) out.new result }
 {
     if role_at(t, j) != 0 {
         return d;
@@ -160,7 +160,7 @@ fn below_at(t: &[u8], j: usize, out: &mut [u32], d: Defined) -> Defined
 
 fn below_next(t: &[u8], j: usize) -> usize
     requires { j < 1024 }
-    ensures { result ≡ pick (is_several (head_at t.now j)) (j + 1) (j + size_at t.now j) }
+    ensures { result ≡ pick (is_several (node_head t.now j)) (j + 1) (j + size_at t.now j) }
 {
     let after = j + size_at(t, j);
     if role_at(t, j) != 0 {
@@ -187,7 +187,7 @@ fn below(t: &[u8], i: usize, e: usize, out: &mut [u32], d: Defined) -> Defined
 
 fn lvalue(t: &[u8], role: usize, j: usize, out: &mut [u32], d: Defined) -> Defined
     requires { Subtree t.now j × Low t.now (j + size_at t.now j) }
-    ensures { Does t.now out.old d (named_one role (head_at t.now j) (forest_of t.now (j + 1) (j + size_at t.now j))) out.new result }
+    ensures { Does t.now out.old d (named_one role (node_head t.now j) (forest_of t.now (j + 1) (j + size_at t.now j))) out.new result }
 {
     if role_at(t, j) != role {
         return d;
@@ -240,7 +240,7 @@ fn is_self_set(t: &[u8], i: usize, e: usize) -> bool
 
 fn repeat(t: &[u8], x: usize, out: &mut [u32], d: Defined) -> Defined
     requires { (value_at t.now x < 512) × (x < 1024) × (kind_at t.now x ≡ 40) }
-    ensures { Does t.now out.old d (repeats (head_at t.now x) ∷ []) out.new result }
+    ensures { Does t.now out.old d (repeats (node_head t.now x) ∷ []) out.new result }
 {
     let v = value_at(t, x);
     if may_repeat(t, d, v) {
@@ -261,7 +261,7 @@ fn assign(t: &[u8], i: usize, e: usize, out: &mut [u32], d: Defined) -> Defined
 
 fn stmt(t: &[u8], i: usize, out: &mut [u32], d: Defined) -> Defined
     requires { Subtree t.now i × Low t.now (i + size_at t.now i) }
-    ensures { Does t.now out.old d (deeds_one (head_at t.now i) (forest_of t.now (i + 1) (i + size_at t.now i))) out.new result }
+    ensures { Does t.now out.old d (deeds_one (node_head t.now i) (forest_of t.now (i + 1) (i + size_at t.now i))) out.new result }
 {
     let k = kind_at(t, i);
     let e = i + size_at(t, i);

@@ -1,7 +1,7 @@
 // 14: type called with one argument, compared with the name of a type.
 ghost use Rattle.std.specs.Prelude.{◌≡◌, ◌||◌, ◌+◌, ◌≤◌, eqb};
 ghost use Rattle.tree.specs.Bytes.{size_at};
-ghost use Rattle.tree.specs.Forest.{head_at, forest_of};
+ghost use Rattle.tree.specs.Forest.{node_head, forest_of};
 ghost use Rattle.tree.specs.code.Part.{Part, Subtree};
 ghost use Rattle.rules.specs.Visit.{each, how_many};
 ghost use Rattle.rules.specs.Incompatible.{identifier, check_at};
@@ -127,7 +127,7 @@ fn compares(k: usize) -> bool
 
 fn match_bad_type_equality(t: &[u8], names: Types, i: usize, out: &mut [u32], s: Sheet) -> Sheet
     requires { Subtree t.now i }
-    ensures { page out.new result ≡ writes (page out.old s) (check_at (is names.call) (five names) (head_at t.now i) (forest_of t.now (i + 1) (i + size_at t.now i))) }
+    ensures { page out.new result ≡ writes (page out.old s) (check_at (is names.call) (five names) (node_head t.now i) (forest_of t.now (i + 1) (i + size_at t.now i))) }
 {
     if compares(kind_at(t, i)) {
         let e = i + size_at(t, i);

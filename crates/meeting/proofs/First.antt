@@ -10,7 +10,7 @@ use lib.Dec.{eqb, T, eqb→eq}
 use lib.ListN.{length, get_or, set, length-set}
 use lib.Seq.{get_or-set_same, get_or-set_other}
 use Rattle.tree.specs.Bytes.{pick, begin_at, end_at, value_at}
-use Rattle.tree.specs.Forest.{Spot, Head, spot_at, forest_of}
+use Rattle.tree.specs.Forest.{Spot, Head, node_spot, forest_of}
 use Rattle.tree.specs.code.Part.{Part}
 use Rattle.rules.specs.Names.{same, met, first_or, first_met}
 use Rattle.rules.specs.Meeting.{is_met}
@@ -27,8 +27,8 @@ true_so : {b : Bool} → b ≡ true → T b
 true_so e = rw e tt
 
 -- nodes that share span and name are in one bucket
-same_bucket : (t : List ℕ) (a c : ℕ) → same (spot_at t a) (spot_at t c) ≡ true → bucket_of t a ≡ bucket_of t c
-unfolding bucket_of spot_at
+same_bucket : (t : List ℕ) (a c : ℕ) → same (node_spot t a) (node_spot t c) ≡ true → bucket_of t a ≡ bucket_of t c
+unfolding bucket_of node_spot
 same_bucket t a c e =
     let x = eqb (value_at t a) (value_at t c) in
     let y = eqb (begin_at t a) (begin_at t c) in
@@ -38,10 +38,10 @@ same_bucket t a c e =
 
 -- a place's word x and flag f after node i is met
 abbrev word_after : List ℕ → ℕ → ℕ → ℕ → ℕ
-word_after t x f i = pick (eqb f 0) (pick (same (spot_at t x) (spot_at t i)) i x) x
+word_after t x f i = pick (eqb f 0) (pick (same (node_spot t x) (node_spot t i)) i x) x
 
 abbrev flag_after : List ℕ → ℕ → ℕ → ℕ → ℕ
-flag_after t x f i = pick (eqb f 0) (pick (same (spot_at t x) (spot_at t i)) 1 f) f
+flag_after t x f i = pick (eqb f 0) (pick (same (node_spot t x) (node_spot t i)) 1 f) f
 
 pick_same : (a c : Bool) (x y : ℕ) → (c ≡ true → ⊥) → pick a (pick c y x) x ≡ x
 pick_same true true x y n = absurd (n refl)
@@ -51,13 +51,13 @@ pick_same false c x y n = refl
 module _ (t : List ℕ) (x f i : ℕ) (n : bucket_of t x ≡ bucket_of t i → ⊥) where
   -- a place of another bucket stays
   word_stays : word_after t x f i ≡ x
-  word_stays = pick_same (eqb f 0) (same (spot_at t x) (spot_at t i)) x i (λ e. n (same_bucket t x i e))
+  word_stays = pick_same (eqb f 0) (same (node_spot t x) (node_spot t i)) x i (λ e. n (same_bucket t x i e))
 
   flag_stays : flag_after t x f i ≡ f
-  flag_stays = pick_same (eqb f 0) (same (spot_at t x) (spot_at t i)) f 1 (λ e. n (same_bucket t x i e))
+  flag_stays = pick_same (eqb f 0) (same (node_spot t x) (node_spot t i)) f 1 (λ e. n (same_bucket t x i e))
 
 bucket_stays : (t : List ℕ) (x f i : ℕ) → bucket_of t (word_after t x f i) ≡ bucket_of t x
-bucket_stays t x f i = go (eqb f 0) (same (spot_at t x) (spot_at t i)) (same_bucket t x i)
+bucket_stays t x f i = go (eqb f 0) (same (node_spot t x) (node_spot t i)) (same_bucket t x i)
   where
     go : (a c : Bool) → (c ≡ true → bucket_of t x ≡ bucket_of t i) → bucket_of t (pick a (pick c i x) x) ≡ bucket_of t x
     go true true g = sym (g refl)
@@ -72,7 +72,7 @@ module _ (t u : List ℕ) (k i : ℕ) where
 
   touched_length : length (touched t u k i) ≡ length u
   unfolding touched
-  touched_length = go (eqb (get_or u (4096 + k) 0) 0) (same (spot_at t (get_or u k 0)) (spot_at t i))
+  touched_length = go (eqb (get_or u (4096 + k) 0) 0) (same (node_spot t (get_or u k 0)) (node_spot t i))
     where
       go : (a c : Bool) → length (pick a (pick c stored u) u) ≡ length u
       go true true = length-set (set u k i) (4096 + k) 1 ∙ length-set u k i
@@ -81,7 +81,7 @@ module _ (t u : List ℕ) (k i : ℕ) where
 
   touched_other : (j : ℕ) → (j ≡ k → ⊥) → (j ≡ 4096 + k → ⊥) → get_or (touched t u k i) j 0 ≡ get_or u j 0
   unfolding touched
-  touched_other j x y = go (eqb (get_or u (4096 + k) 0) 0) (same (spot_at t (get_or u k 0)) (spot_at t i))
+  touched_other j x y = go (eqb (get_or u (4096 + k) 0) 0) (same (node_spot t (get_or u k 0)) (node_spot t i))
     where
       go : (a c : Bool) → get_or (pick a (pick c stored u) u) j 0 ≡ get_or u j 0
       go true true = get_or-set_other (set u k i) (4096 + k) j 1 0 y ∙ get_or-set_other u k j i 0 x
@@ -90,7 +90,7 @@ module _ (t u : List ℕ) (k i : ℕ) where
 
   touched_word : k < 1024 → 5120 ≤ length u → get_or (touched t u k i) k 0 ≡ word_after t (get_or u k 0) (get_or u (4096 + k) 0) i
   unfolding touched
-  touched_word l r = go (eqb (get_or u (4096 + k) 0) 0) (same (spot_at t (get_or u k 0)) (spot_at t i))
+  touched_word l r = go (eqb (get_or u (4096 + k) 0) 0) (same (node_spot t (get_or u k 0)) (node_spot t i))
     where
       go : (a c : Bool) → get_or (pick a (pick c stored u) u) k 0 ≡ pick a (pick c i (get_or u k 0)) (get_or u k 0)
       go true true = get_or-set_other (set u k i) (4096 + k) k 1 0 (λ e. omega arith) ∙ get_or-set_same u k i 0 (omega arith)
@@ -100,7 +100,7 @@ module _ (t u : List ℕ) (k i : ℕ) where
   touched_flag : k < 1024 → 5120 ≤ length u
       → get_or (touched t u k i) (4096 + k) 0 ≡ flag_after t (get_or u k 0) (get_or u (4096 + k) 0) i
   unfolding touched
-  touched_flag l r = go (eqb (get_or u (4096 + k) 0) 0) (same (spot_at t (get_or u k 0)) (spot_at t i))
+  touched_flag l r = go (eqb (get_or u (4096 + k) 0) 0) (same (node_spot t (get_or u k 0)) (node_spot t i))
     where
       go : (a c : Bool) → get_or (pick a (pick c stored u) u) (4096 + k) 0
           ≡ pick a (pick c 1 (get_or u (4096 + k) 0)) (get_or u (4096 + k) 0)
@@ -260,15 +260,15 @@ module _ (t w v : List ℕ) (n : ℕ) (bk : ℕ → ℕ) (few : n ≤ 1024) (roo
 
   -- what a place with the word x and the flag f has after these nodes are met
   abbrev told : ℕ → ℕ → List Head → ℕ
-  told x f hs = pick (eqb f 0) (first_or x (spot_at t x) hs) x
+  told x f hs = pick (eqb f 0) (first_or x (node_spot t x) hs) x
 
-  told_next : (x f : ℕ) (h : Head) (hs : List Head) → h.spot ≡ spot_at t h.number
+  told_next : (x f : ℕ) (h : Head) (hs : List Head) → h.spot ≡ node_spot t h.number
       → told (word_after t x f h.number) (flag_after t x f h.number) hs ≡ told x f (h ∷ hs)
-  told_next x f h hs o = rw o (go (eqb f 0) refl (same (spot_at t x) (spot_at t h.number)))
+  told_next x f h hs o = rw o (go (eqb f 0) refl (same (node_spot t x) (node_spot t h.number)))
     where
       go : (a : Bool) → eqb f 0 ≡ a → (c : Bool)
           → told (pick a (pick c h.number x) x) (pick a (pick c 1 f) f) hs
-          ≡ pick a (elim c as (λ y. ℕ) [ true ↦ h.number | false ↦ first_or x (spot_at t x) hs ]) x
+          ≡ pick a (elim c as (λ y. ℕ) [ true ↦ h.number | false ↦ first_or x (node_spot t x) hs ]) x
       go true e true = refl
       go true e false = rw e
       go false e c = rw e
@@ -329,7 +329,7 @@ module _ (t : List ℕ) (n : ℕ) (w : List ℕ) (few : n ≤ 1024) (room : 5120
 
   -- each place has the first node of its span and name that the walk meets, or its own
   pub first_placed : (nodes : ℕ) → Part t 0 nodes → (k : ℕ) → k < n
-      → get_or (first_words t nodes n w) k 0 ≡ first_or (get_or w k 0) (spot_at t (get_or w k 0)) (met (takes never (of_role 0) (forest_of t 0 nodes)))
+      → get_or (first_words t nodes n w) k 0 ≡ first_or (get_or w k 0) (node_spot t (get_or w k 0)) (met (takes never (of_role 0) (forest_of t 0 nodes)))
   unfolding first_words asked asked_as ask_of
   first_placed nodes p k a =
       meets_placed t w (linked t (emptied w 1024) n) n (of_place t w) few room ties (asked 0 (forest_of t 0 nodes)) (part_asked p) (linked t (emptied w 1024) n) start k a

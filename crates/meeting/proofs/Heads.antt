@@ -2,7 +2,7 @@
 use Prim.Native.Nat.{ℕ}
 use mathlib.Core.Path.{◌≡◌, sym, ap}
 use mathlib.Core.List.{List}
-use Rattle.tree.specs.Forest.{Head, spot_at, head_at, forest_of}
+use Rattle.tree.specs.Forest.{Head, node_spot, node_head, forest_of}
 use Rattle.tree.specs.code.Part.{Part}
 use Rattle.rules.specs.Record.{Each}
 use Rattle.rules.specs.Order.{of_role}
@@ -11,10 +11,10 @@ use Rattle.meeting.specs.Asked.{never, ask_of, asked_as, asked}
 use Rattle.rules.proofs.Each.{each_more}
 
 abbrev pub Owns : List ℕ → List Head → Type 0
-Owns t hs = Each (λ h. h.spot ≡ spot_at t h.number) hs
+Owns t hs = Each (λ h. h.spot ≡ node_spot t h.number) hs
 
 pub part_asked : {t : List ℕ} {n : ℕ} → Part t 0 n → Owns t (asked 0 (forest_of t 0 n))
-unfolding asked asked_as ask_of head_at
+unfolding asked asked_as ask_of node_head
 part_asked {t} {n} p =
-    each_more (Own t n) (λ h. h.spot ≡ spot_at t h.number) (λ h o. sym (ap (λ (x : Head). x.spot) o.0))
+    each_more (Own t n) (λ h. h.spot ≡ node_spot t h.number) (λ h o. sym (ap (λ (x : Head). x.spot) o.0))
     (asked 0 (forest_of t 0 n)) (met_own p never (of_role 0))

@@ -8,7 +8,7 @@ use mathlib.Core.List.{List, [], ◌∷◌, ◌++◌}
 use lib.ListN.{get_or, set}
 use lib.Dec.{eqb}
 use borrow.Author.Tests.{eq-eqb, ne_eqb}
-use Rattle.tree.specs.Forest.{Head, spot_at}
+use Rattle.tree.specs.Forest.{Head, node_spot}
 use Rattle.rules.specs.Names.{same}
 use Rattle.meeting.specs.Words.{bucket_of, emptied, linked_at, link_words, linked, touched, along, meet_words, meets}
 
@@ -33,18 +33,18 @@ module _ (t w : List ℕ) (k i : ℕ) where
   unfolding touched
   touch_met e n = rw (ne_eqb (get_or w (4096 + k) 0) 0 (λ z. n (e ∙ z)))
 
-  pub touch_takes : {x y : ℕ} {b : Bool} {v u : List ℕ} → x ≡ get_or w (4096 + k) 0 → x ≡ 0 → y ≡ get_or w k 0 → b ≡ same (spot_at t y) (spot_at t i)
+  pub touch_takes : {x y : ℕ} {b : Bool} {v u : List ℕ} → x ≡ get_or w (4096 + k) 0 → x ≡ 0 → y ≡ get_or w k 0 → b ≡ same (node_spot t y) (node_spot t i)
       → b ≡ true → v ≡ set w k i → u ≡ set v (4096 + k) 1 → u ≡ touched t w k i
   unfolding touched
   touch_takes e z f g h p q =
-      let s : same (spot_at t (get_or w k 0)) (spot_at t i) ≡ true = rw f at (sym g ∙ h) in
+      let s : same (node_spot t (get_or w k 0)) (node_spot t i) ≡ true = rw f at (sym g ∙ h) in
       q ∙ rw (p, eq-eqb (get_or w (4096 + k) 0) 0 (sym e ∙ z), s)
 
-  pub touch_unlike : {x y : ℕ} {b : Bool} → x ≡ get_or w (4096 + k) 0 → x ≡ 0 → y ≡ get_or w k 0 → b ≡ same (spot_at t y) (spot_at t i)
+  pub touch_unlike : {x y : ℕ} {b : Bool} → x ≡ get_or w (4096 + k) 0 → x ≡ 0 → y ≡ get_or w k 0 → b ≡ same (node_spot t y) (node_spot t i)
       → b ≡ false → w ≡ touched t w k i
   unfolding touched
   touch_unlike e z f g h =
-      let s : same (spot_at t (get_or w k 0)) (spot_at t i) ≡ false = rw f at (sym g ∙ h) in
+      let s : same (node_spot t (get_or w k 0)) (node_spot t i) ≡ false = rw f at (sym g ∙ h) in
       rw (eq-eqb (get_or w (4096 + k) 0) 0 (sym e ∙ z), s)
 
 module _ (t : List ℕ) (i : ℕ) where

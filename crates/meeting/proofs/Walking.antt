@@ -9,7 +9,7 @@ use lib.Dec.{eqb, ltb, T}
 use lib.ListN.{get_or, drop}
 use borrow.Author.Tests.{lt-ltb, ne_eqb}
 use Rattle.tree.specs.Bytes.{pick, kind_at, role_at, size_at}
-use Rattle.tree.specs.Forest.{Head, Forest, head_at, forest_of}
+use Rattle.tree.specs.Forest.{Head, Forest, node_head, forest_of}
 use Rattle.tree.specs.code.Part.{Part, Subtree}
 use Rattle.tree.proofs.Laws.{sized, first, later, forest_none, forest_node}
 use Rattle.rules.specs.Order.{Form, forms}
@@ -30,7 +30,7 @@ module _ (t : List ℕ) (n : ℕ) (w : List ℕ) (a c : ℕ) where
   below_none e = rw e
 
   pub below_self : {v : List ℕ} → a ≡ 14 → c < 1024 → v ≡ meet_words t n w c → v ≡ meets t n w (at (below a) t c)
-  unfolding below meets head_at
+  unfolding below meets node_head
   below_self e l f = f ∙ rw (e, lt-ltb c 65535 (omega arith))
 
   below_is : (h : Head) (k : Forest) → (a ≡ 13 → ⊥) → (a ≡ 14 → ⊥) → below a h k ≡ asked a k
@@ -69,7 +69,7 @@ module _ (t : List ℕ) (n : ℕ) (r c : ℕ) where
   pub row_next : (k : ℕ) (x w : List ℕ) {v : List ℕ} {p : ℕ} → x ≡ meets t n w (at (run (drop k (plan r))) t c) → p ≡ get_or (plan r) k 13
       → v ≡ meets t n w (at (below p) t c) → x ≡ meets t n v (at (run (drop (k + 1) (plan r))) t c)
   row_next k x w e f g =
-      let h = head_at t c in
+      let h = node_head t c in
       let u = forest_of t (c + 1) (c + size_at t c) in
       e ∙ ap (meets t n w) (run_next (plan r) k h u) ∙ meets_append t n (below (get_or (plan r) k 13) h u) (run (drop (suc k) (plan r)) h u) w
       ∙ rw (add-one k, g, f)
@@ -83,13 +83,13 @@ module _ (t : List ℕ) (n : ℕ) (r c : ℕ) where
 module _ (t : List ℕ) (n : ℕ) (w : List ℕ) (a c : ℕ) where
   pub step_wanted : (r : ℕ) {b : Bool} {role kind : ℕ} {v : List ℕ} → role ≡ role_at t c → b ≡ wanted (ask_of a) role → b ≡ true → kind ≡ kind_at t c
       → plan r ≡ row (ask_of a) kind → v ≡ meets t n w (at (run (plan r)) t c) → v ≡ meets t n w (at (step (ask_of a)) t c)
-  unfolding step head_at
+  unfolding step node_head
   step_wanted r e f g h p q =
       let s : wanted (ask_of a) (role_at t c) ≡ true = rw e at (sym f ∙ g) in
       q ∙ rw (p, h, s)
 
   pub step_unwanted : {b : Bool} {role : ℕ} → role ≡ role_at t c → b ≡ wanted (ask_of a) role → b ≡ false → w ≡ meets t n w (at (step (ask_of a)) t c)
-  unfolding step head_at meets
+  unfolding step node_head meets
   step_unwanted e f g =
       let s : wanted (ask_of a) (role_at t c) ≡ false = rw e at (sym f ∙ g) in
       rw s
@@ -100,9 +100,9 @@ module _ (t : List ℕ) (n : ℕ) where
   pub visit_next : (x w : List ℕ) (b b' : ℕ) {c e role : ℕ} {v : List ℕ} → Part t c e → c < e → x ≡ meets t n w (asked b (forest_of t c e))
       → v ≡ meets t n w (at (step (ask_of b)) t c) → role ≡ role_at t c → ask_of b' ≡ after (ask_of b) (eqb 0 role)
       → x ≡ meets t n v (asked b' (forest_of t (c + size_at t c) e))
-  unfolding asked head_at
+  unfolding asked node_head
   visit_next x w b b' {c} {e} {role} p lt m f g h =
-      let k = head_at t c in
+      let k = node_head t c in
       let u = forest_of t (c + 1) (c + size_at t c) in
       let s = forest_of t (c + size_at t c) e in
       m ∙ ap (λ (y : Forest). meets t n w (asked_as (ask_of b) y)) (forest_node p lt)

@@ -2,7 +2,7 @@
 -- rows of numbers. Assumes nothing.
 use Rattle.std.specs.Prelude.{ℕ, ◌+◌, ◌-◌, Bool, true, false, List, [], ◌∷◌, ◌++◌, eqb, leb, ltb}
 use Rattle.tree.specs.Bytes.{pick, size_at}
-use Rattle.tree.specs.Forest.{Head, Forest, head_at, forest_of}
+use Rattle.tree.specs.Forest.{Head, Forest, node_head, forest_of}
 use Rattle.rules.specs.Visit.{look}
 use Rattle.rules.specs.Names.{met}
 use Rattle.rules.specs.Order.{Form, forms, Bind, one, several, nothing, bindings, Sort, Want, of_role, every, first_over, first_bound, clauses, binds, takes}
@@ -115,4 +115,4 @@ step q h k = pick (wanted q h.role) (run (row q h.kind) h k) []
 
 -- of node c of a file
 abbrev pub at : (Head → Forest → List Head) → List ℕ → ℕ → List Head
-at f t c = f (head_at t c) (forest_of t (c + 1) (c + size_at t c))
+at f t c = f (node_head t c) (forest_of t (c + 1) (c + size_at t c))

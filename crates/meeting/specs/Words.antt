@@ -2,7 +2,7 @@
 -- in one bucket, a chain of places. Assumes nothing.
 use Rattle.std.specs.Prelude.{ℕ, zero, suc, ◌+◌, ◌*◌, ◌-◌, ◌%◌, true, false, List, [], ◌∷◌, eqb, get_or, set}
 use Rattle.tree.specs.Bytes.{pick, begin_at, end_at, value_at}
-use Rattle.tree.specs.Forest.{Head, spot_at, forest_of}
+use Rattle.tree.specs.Forest.{Head, node_spot, forest_of}
 use Rattle.rules.specs.Names.{same}
 use Rattle.meeting.specs.Asked.{asked}
 
@@ -44,7 +44,7 @@ linked t w (suc k) = link_words t (linked t w k) k
 unfoldable pub touched : List ℕ → List ℕ → ℕ → ℕ → List ℕ
 touched t w k i =
     pick (eqb (get_or w (mets + k) 0) 0)
-    (pick (same (spot_at t (get_or w k 0)) (spot_at t i)) (set (set w k i) (mets + k) 1) w)
+    (pick (same (node_spot t (get_or w k 0)) (node_spot t i)) (set (set w k i) (mets + k) 1) w)
     w
 
 -- the same of the places of a bucket from place q - 1 on, at most as many as the first argument says

@@ -6,7 +6,7 @@ use mathlib.Core.Bool.{Bool, cond, ◌&&◌, ◌||◌}
 use mathlib.Core.List.{List}
 use lib.Dec.{eqb}
 use Rattle.tree.specs.Bytes.{value_at}
-use Rattle.tree.specs.Forest.{Head, Forest, none, node, spot_at, head_at, forest_of}
+use Rattle.tree.specs.Forest.{Head, Forest, none, node, node_spot, node_head, forest_of}
 use Rattle.tree.specs.code.Part.{Part}
 use Rattle.tree.proofs.Laws.{forest_none, forest_node, induct}
 use Rattle.rules.specs.Order.{Cmd, skip, ◌⨟◌, stop, fails, Form, picked, part, form_of, step, takes, fail_named, fail_called, Want, of_role, every, first_over, first_bound, clauses}
@@ -55,7 +55,7 @@ module _ (P Q : ℕ → Bool) where
       (fun_ext (λ v. takes_alike k a.1.0 v)) (fun_ext (λ v. takes_alike s a.1.1 v))
 
   alike_all : {t : List ℕ} → ((j : ℕ) → P (value_at t j) ≡ Q (value_at t j)) → {i e : ℕ} → Part t i e → Alike (forest_of t i e)
-  unfolding head_at spot_at
+  unfolding node_head node_spot
   alike_all {t} same p = induct (λ i e. Alike (forest_of t i e)) t (λ i e h. rw (forest_none t i e h) tt) (λ i e p lt a b. rw (forest_node p lt) (same i, (a, b))) p
 
   -- THE LAW

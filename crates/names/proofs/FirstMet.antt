@@ -11,7 +11,7 @@ use lib.Seq.{length-take-le, get_or-drop, get_or-append-add}
 use borrow.Author.Tests.{lt-ltb}
 use borrow.Rule.Slice.PartMut.{put_mid}
 use Rattle.tree.specs.Bytes.{pick}
-use Rattle.tree.specs.Forest.{Spot, Head, spot_at, head_at, forest_of}
+use Rattle.tree.specs.Forest.{Spot, Head, node_spot, node_head, forest_of}
 use Rattle.tree.specs.code.Part.{Part}
 use Rattle.tree.specs.Table.{table_of, underscored, globals_of}
 use Rattle.rules.specs.Record.{named_at, Each}
@@ -46,15 +46,15 @@ places_in_map f g h P (suc m) a e p =
 
 -- a list's first node of a span and name is that of its number
 first_own : (t : List ℕ) (n : ℕ) (s : Spot) (hs : List Head) → Each (Own t n) hs → MeetsFirst s hs (first_met s hs)
-    → ((head_at t (first_met s hs)).spot ≡ s) × ((head_at t (first_met s hs)).number ≡ first_met s hs)
+    → ((node_head t (first_met s hs)).spot ≡ s) × ((node_head t (first_met s hs)).number ≡ first_met s hs)
 first_own t n s hs o f =
     let it : Each (Own t n) (f.it ∷ f.after) = each_right (Own t n) f.before (f.it ∷ f.after) (rw f.there at o) in
-    let e : head_at t (first_met s hs) ≡ f.it = ap (head_at t) (sym f.numbered) ∙ it.0.0 in
+    let e : node_head t (first_met s hs) ≡ f.it = ap (node_head t) (sym f.numbered) ∙ it.0.0 in
     (ap (λ (h : Head). h.spot) e ∙ f.pair, ap (λ (h : Head). h.number) e ∙ f.numbered)
 
 as_told : (t : List ℕ) (s : Spot) (hs : List Head) (c : ℕ)
-    → ((head_at t (first_met s hs)).spot ≡ s) × ((head_at t (first_met s hs)).number ≡ first_met s hs)
-    → named_at c (head_at t (first_met s hs)) ≡ told hs (record { code = c; spot = s })
+    → ((node_head t (first_met s hs)).spot ≡ s) × ((node_head t (first_met s hs)).number ≡ first_met s hs)
+    → named_at c (node_head t (first_met s hs)) ≡ told hs (record { code = c; spot = s })
 as_told t s hs c o = rw (o.0, o.1)
 
 module _ (t : List ℕ) (n : ℕ) (part : Part t 0 n) (w : List ℕ) (r : ℕ) (few : r ≤ 1024) (long : work_words ≤ length w) where
@@ -75,7 +75,7 @@ module _ (t : List ℕ) (n : ℕ) (part : Part t 0 n) (w : List ℕ) (r : ℕ) (
   unfolding record_in warning_in
   record_met k lt m =
       let room : 5120 ≤ length (drop 3072 w) = omega (arith, length-drop 3072 w, long) in
-      let s = spot_at t (get_or w (3072 + k) 0) in
+      let s = node_spot t (get_or w (3072 + k) 0) in
       let f = first_is s (met (module_of t n)) m in
       let o = first_own t n s (met (module_of t n)) all_own f in
       let code : get_or (take 3072 w ++ first_words t n r (drop 3072 w)) (4096 + k) 0 ≡ get_or w (4096 + k) 0

@@ -4,7 +4,7 @@ use native.Mathlib.Omega.{arith}
 use mathlib.Core.Path.{◌≡◌}
 use mathlib.Core.List.{List, [], ◌∷◌}
 use lib.ListN.{length}
-use Rattle.tree.specs.Forest.{head_at}
+use Rattle.tree.specs.Forest.{node_head}
 use Rattle.rules.specs.code.Marks.{House}
 use Rattle.scope.specs.State.{base_in, room_of, rooms_of, out_of, house_of, Fits, Kept}
 use Rattle.scope.specs.Words.{enter_scope, closed_of}
@@ -47,7 +47,7 @@ unfolding house_of
 closes t w s f few = (closed_warns t w s f).list few
 
 pub methods : (t : List ℕ) → Methods t
-unfolding head_at
+unfolding node_head
 methods t =
     record {
       set = λ d w s i f h. record { does = weaker (λ m p. p.1) (set_does t w s i f) };

@@ -5,7 +5,7 @@ use mathlib.Core.Bool.{true}
 use mathlib.Core.List.{List, [], ◌∷◌}
 use lib.ListN.{length, get_or}
 use Rattle.tree.specs.Bytes.{kind_at}
-use Rattle.tree.specs.Forest.{head_at}
+use Rattle.tree.specs.Forest.{node_head}
 use Rattle.tree.specs.Table.{table_of, underscored, globals_of}
 use Rattle.rules.specs.Order.{use_of, set_of}
 use Rattle.rules.specs.code.Marks.{House, leave_house, mid, farewell_room, undefined_room}
@@ -23,9 +23,9 @@ closing t m = undefined_room (globals_of t) m.here (farewell_room (underscored (
 
 pub record Methods (t : List ℕ) : Type 0 where
   pub set : (d : ℕ) (w : List ℕ) (s : Scope) (i : ℕ) → Fits w s → i < 1024
-      → Goes t d (set_of (sort_of (kind_at t i)) (head_at t i)) w s (added_words t w s i) (set_scope t w s i)
+      → Goes t d (set_of (sort_of (kind_at t i)) (node_head t i)) w s (added_words t w s i) (set_scope t w s i)
   pub used : (d : ℕ) (w : List ℕ) (s : Scope) (i : ℕ) → Fits w s → i < 1024
-      → Goes t d (use_of (head_at t i)) w s (used_words t w s i) (used_scope t w s i)
+      → Goes t d (use_of (node_head t i)) w s (used_words t w s i) (used_scope t w s i)
   pub back : {w v : List ℕ} {s one : Scope} → Fits w s → Fits v one → Kept w s v one → (outer : List Scope)
       → house_of t v (back_scope s one) outer ≡ mid (house_of t w s outer) (house_of t v one outer)
   pub join_fits : {x : List ℕ} (one two : Scope) → Fits x two → Fits x (join_scope one two)

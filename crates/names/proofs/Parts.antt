@@ -9,7 +9,7 @@ use mathlib.Core.List.{List, [], ◌∷◌}
 use lib.Dec.{eqb}
 use borrow.Author.Tests.{ne_eqb}
 use Rattle.tree.specs.Bytes.{pick, kind_at, role_at, size_at}
-use Rattle.tree.specs.Forest.{head_at, forest_of}
+use Rattle.tree.specs.Forest.{node_head, forest_of}
 use Rattle.tree.specs.code.Part.{Part}
 use Rattle.tree.specs.code.Find.{child_of, kid_of}
 use Rattle.tree.proofs.Laws.{forest_none, forest_node, kids, first, sized, later}
@@ -18,11 +18,11 @@ use Rattle.tree.proofs.Find as find
 use Rattle.rules.specs.Visit.{look, has}
 use Rattle.rules.specs.Order.{skip, ◌⨟◌, use_of, set_of, stop, branch, loop, scope, breaks, bare, valued, fails, Form, forms, broken_by, Sort, Bind, bindings, bind_part, binds, use_part, uses, part, picked, step, takes, Want, first_over, first_bound, clauses}
 use Rattle.scope.specs.State.{sort_of}
-use Rattle.names.specs.Walk.{named_by, kids_of, want_of, wanted_of, names_of, visit_of, down_of, node_of, name_node, names_in, bind_of, use_of, Node, clauses_of, over_of, bound_of, fail_of}
+use Rattle.names.specs.Walk.{named_by, kids_of, want_of, wanted_of, names_of, visit_of, down_of, node_of, name_node, names_in, node_bind, node_use, Node, clauses_of, over_of, bound_of, fail_of}
 
 -- the parts of a node
-pub kids_of : {t : List ℕ} {c d : ℕ} → Node t c d → Part t (c + 1) (c + size_at t c)
-kids_of n = kids n.part (omega (arith, n.some))
+pub kids_held : {t : List ℕ} {c d : ℕ} → Node t c d → Part t (c + 1) (c + size_at t c)
+kids_held n = kids n.part (omega (arith, n.some))
 
 pub node_below : {t : List ℕ} {c d i : ℕ} → Node t c d → c < i → i < c + size_at t c → Part t i (c + size_at t c)
 node_below n a b = later n.part (omega arith)
@@ -83,11 +83,11 @@ module _ (t : List ℕ) (f : ℕ) where
 
   pub visit_next : (r : ℕ) {i e : ℕ} → Part t i e → i < e
       → visit_of t f (want_of r) i e ≡ picked (wanted_of t r i) (node_of t f i) (visit_of t f (want_of r) (i + size_at t i) e)
-  unfolding visit_of node_of down_of kids_of head_at want_of wanted_of
+  unfolding visit_of node_of down_of kids_of node_head want_of wanted_of
   visit_next r {i} {e} p lt = ap (takes (named_by f) (want_of r)) (forest_node p lt) ∙ asked (eqb r 9) refl
     where
       asked : (b : Bool) → eqb r 9 ≡ b
-          → step (named_by f) (want_of r) (head_at t i) (kids_of t i) (λ v. takes (named_by f) v (kids_of t i)) (λ v. takes (named_by f) v (forest_of t (i + size_at t i) e))
+          → step (named_by f) (want_of r) (node_head t i) (kids_of t i) (λ v. takes (named_by f) v (kids_of t i)) (λ v. takes (named_by f) v (forest_of t (i + size_at t i) e))
           ≡ picked (wanted_of t r i) (node_of t f i) (visit_of t f (want_of r) (i + size_at t i) e)
       asked true q = rw q
       asked false q = rw q
@@ -108,38 +108,38 @@ module _ (t : List ℕ) (r : ℕ) where
   names_end false i e h = ap (binds r) (forest_none t i e h)
 
   pub names_next : (u : Bool) {i e : ℕ} → Part t i e → i < e → names_in u t r i e ≡ picked (eqb r (role_at t i)) (name_node u t i) (names_in u t r (i + size_at t i) e)
-  unfolding names_in name_node kids_of head_at
+  unfolding names_in name_node kids_of node_head
   names_next true p lt = ap (uses r) (forest_node p lt)
   names_next false p lt = ap (binds r) (forest_node p lt)
 
-  pub names_kids : (u : Bool) (c : ℕ) → pick u (use_of t r c) (bind_of t r c) ≡ names_in u t r (c + 1) (c + size_at t c)
-  unfolding use_of bind_of names_in kids_of
+  pub names_kids : (u : Bool) (c : ℕ) → pick u (node_use t r c) (node_bind t r c) ≡ names_in u t r (c + 1) (c + size_at t c)
+  unfolding node_use node_bind names_in kids_of
   names_kids u c = refl
 
 -- the names of a node, by its kind
 module _ (t : List ℕ) (c : ℕ) where
   name_kind : (u : Bool) (k : ℕ) → kind_at t c ≡ k
-      → name_node u t c ≡ pick u (use_part (look k bindings Bind.nothing) (head_at t c) (λ v. use_of t v c)) (bind_part (look k bindings Bind.nothing) (head_at t c) (λ v. bind_of t v c))
-  unfolding name_node head_at use_of bind_of
-  name_kind u k q = ap (λ (z : ℕ). pick u (use_part (look z bindings Bind.nothing) (head_at t c) (λ v. use_of t v c)) (bind_part (look z bindings Bind.nothing) (head_at t c) (λ v. bind_of t v c))) q
+      → name_node u t c ≡ pick u (use_part (look k bindings Bind.nothing) (node_head t c) (λ v. node_use t v c)) (bind_part (look k bindings Bind.nothing) (node_head t c) (λ v. node_bind t v c))
+  unfolding name_node node_head node_use node_bind
+  name_kind u k q = ap (λ (z : ℕ). pick u (use_part (look z bindings Bind.nothing) (node_head t c) (λ v. node_use t v c)) (bind_part (look z bindings Bind.nothing) (node_head t c) (λ v. node_bind t v c))) q
 
-  pub name_several : (u : Bool) → kind_at t c ≡ 41 → name_node u t c ≡ pick u (use_of t 0 c) (bind_of t 0 c)
+  pub name_several : (u : Bool) → kind_at t c ≡ 41 → name_node u t c ≡ pick u (node_use t 0 c) (node_bind t 0 c)
   name_several u q = name_kind u 41 q
 
   -- of kind k, which binds a name of sort o
   name_one : (u : Bool) (k : ℕ) (o : Sort) → look k bindings Bind.nothing ≡ Bind.one o → sort_of k ≡ o → kind_at t c ≡ k
-      → name_node u t c ≡ pick u (use_of (head_at t c)) (set_of (sort_of (kind_at t c)) (head_at t c))
-  unfolding head_at
+      → name_node u t c ≡ pick u (use_of (node_head t c)) (set_of (sort_of (kind_at t c)) (node_head t c))
+  unfolding node_head
   name_one u k o e h q =
       name_kind u k q
-      ∙ ap (λ (z : Bind). pick u (use_part z (head_at t c) (λ v. use_of t v c)) (bind_part z (head_at t c) (λ v. bind_of t v c))) e
-      ∙ ap (λ (z : Sort). pick u (use_of (head_at t c)) (set_of z (head_at t c))) (sym (ap sort_of q ∙ h))
+      ∙ ap (λ (z : Bind). pick u (use_part z (node_head t c) (λ v. node_use t v c)) (bind_part z (node_head t c) (λ v. node_bind t v c))) e
+      ∙ ap (λ (z : Sort). pick u (use_of (node_head t c)) (set_of z (node_head t c))) (sym (ap sort_of q ∙ h))
 
-  pub name_name : (u : Bool) → names_of (kind_at t c) ≡ true → name_node u t c ≡ pick u (use_of (head_at t c)) (set_of (sort_of (kind_at t c)) (head_at t c))
+  pub name_name : (u : Bool) → names_of (kind_at t c) ≡ true → name_node u t c ≡ pick u (use_of (node_head t c)) (set_of (sort_of (kind_at t c)) (node_head t c))
   unfolding sort_of
   name_name u h = go (ℕ_discrete (kind_at t c) 40) (ℕ_discrete (kind_at t c) 43) (ℕ_discrete (kind_at t c) 47)
     where
-      go : Dec (kind_at t c ≡ 40) → Dec (kind_at t c ≡ 43) → Dec (kind_at t c ≡ 47) → name_node u t c ≡ pick u (use_of (head_at t c)) (set_of (sort_of (kind_at t c)) (head_at t c))
+      go : Dec (kind_at t c ≡ 40) → Dec (kind_at t c ≡ 43) → Dec (kind_at t c ≡ 47) → name_node u t c ≡ pick u (use_of (node_head t c)) (set_of (sort_of (kind_at t c)) (node_head t c))
       go (yes q) y z = name_one u 40 Sort.assign refl refl q
       go (no x) (yes q) z = name_one u 43 Sort.argument refl refl q
       go (no x) (no y) (yes q) = name_one u 47 Sort.load refl refl q
@@ -160,20 +160,20 @@ look_plain k a1 a2 a4 a5 a6 a7 a8 a9 a10 a11 a12 a13 a20 a24 a25 a26 =
     missed k forms Form.plain (a1, (a2, (a4, (a5, (a6, (a7, (a8, (a9, (a10, (a11, (a12, (a13, (a20, (a24, (a25, (a26, tt))))))))))))))))
 
 module _ (t : List ℕ) (f c : ℕ) where
-  node_form : (z : Form) → look (kind_at t c) forms Form.plain ≡ z → node_of t f c ≡ part (named_by f) z (head_at t c) (kids_of t c) (λ v. down_of t f v c)
-  unfolding node_of head_at
-  node_form z q = ap (λ (y : Form). part (named_by f) y (head_at t c) (kids_of t c) (λ v. down_of t f v c)) q
+  node_form : (z : Form) → look (kind_at t c) forms Form.plain ≡ z → node_of t f c ≡ part (named_by f) z (node_head t c) (kids_of t c) (λ v. down_of t f v c)
+  unfolding node_of node_head
+  node_form z q = ap (λ (y : Form). part (named_by f) y (node_head t c) (kids_of t c) (λ v. down_of t f v c)) q
 
-  kind_form : (k : ℕ) → kind_at t c ≡ k → node_of t f c ≡ part (named_by f) (look k forms Form.plain) (head_at t c) (kids_of t c) (λ v. down_of t f v c)
+  kind_form : (k : ℕ) → kind_at t c ≡ k → node_of t f c ≡ part (named_by f) (look k forms Form.plain) (node_head t c) (kids_of t c) (λ v. down_of t f v c)
   kind_form k q = node_form (look k forms Form.plain) (ap (λ (z : ℕ). look z forms Form.plain) q)
 
-  pub node_break : kind_at t c ≡ 1 → node_of t f c ≡ stop (breaks (broken_by (head_at t c)))
+  pub node_break : kind_at t c ≡ 1 → node_of t f c ≡ stop (breaks (broken_by (node_head t c)))
   node_break q = kind_form 1 q
 
-  pub node_continue : kind_at t c ≡ 2 → node_of t f c ≡ stop (breaks (broken_by (head_at t c)))
+  pub node_continue : kind_at t c ≡ 2 → node_of t f c ≡ stop (breaks (broken_by (node_head t c)))
   node_continue q = kind_form 2 q
 
-  pub node_return : kind_at t c ≡ 4 → node_of t f c ≡ (down_of t f (want_of 4) c ⨟ stop (cond (has 4 (kids_of t c)) valued (bare (head_at t c))))
+  pub node_return : kind_at t c ≡ 4 → node_of t f c ≡ (down_of t f (want_of 4) c ⨟ stop (cond (has 4 (kids_of t c)) valued (bare (node_head t c))))
   unfolding want_of
   node_return q = kind_form 4 q
 
@@ -181,13 +181,13 @@ module _ (t : List ℕ) (f c : ℕ) where
   unfolding want_of fail_of
   node_expression q = kind_form 5 q
 
-  pub node_assign : kind_at t c ≡ 6 → node_of t f c ≡ (down_of t f (want_of 3) c ⨟ down_of t f (want_of 4) c ⨟ down_of t f (want_of 5) c ⨟ bind_of t 5 c)
-  unfolding want_of bind_of
+  pub node_assign : kind_at t c ≡ 6 → node_of t f c ≡ (down_of t f (want_of 3) c ⨟ down_of t f (want_of 4) c ⨟ down_of t f (want_of 5) c ⨟ node_bind t 5 c)
+  unfolding want_of node_bind
   node_assign q = kind_form 6 q
 
   pub node_modify : kind_at t c ≡ 7
-      → node_of t f c ≡ (down_of t f (want_of 4) c ⨟ down_of t f (want_of 5) c ⨟ use_of t 5 c ⨟ down_of t f (want_of 5) c ⨟ bind_of t 5 c)
-  unfolding want_of bind_of use_of
+      → node_of t f c ≡ (down_of t f (want_of 4) c ⨟ down_of t f (want_of 5) c ⨟ node_use t 5 c ⨟ down_of t f (want_of 5) c ⨟ node_bind t 5 c)
+  unfolding want_of node_bind node_use
   node_modify q = kind_form 7 q
 
   pub node_statements : kind_at t c ≡ 8 → node_of t f c ≡ down_of t f (want_of 0) c
@@ -202,25 +202,25 @@ module _ (t : List ℕ) (f c : ℕ) where
   unfolding want_of
   node_if_else q = kind_form 10 q
 
-  pub node_for : kind_at t c ≡ 11 → node_of t f c ≡ (down_of t f (want_of 4) c ⨟ loop (down_of t f (want_of 5) c ⨟ bind_of t 5 c ⨟ down_of t f (want_of 1) c))
-  unfolding want_of bind_of
+  pub node_for : kind_at t c ≡ 11 → node_of t f c ≡ (down_of t f (want_of 4) c ⨟ loop (down_of t f (want_of 5) c ⨟ node_bind t 5 c ⨟ down_of t f (want_of 1) c))
+  unfolding want_of node_bind
   node_for q = kind_form 11 q
 
   pub node_def : kind_at t c ≡ 12
-      → node_of t f c ≡ (down_of t f (want_of 0) c ⨟ down_of t f (want_of 3) c ⨟ bind_of t 6 c ⨟ scope (bind_of t 0 c ⨟ down_of t f (want_of 1) c))
-  unfolding want_of bind_of
+      → node_of t f c ≡ (down_of t f (want_of 0) c ⨟ down_of t f (want_of 3) c ⨟ node_bind t 6 c ⨟ scope (node_bind t 0 c ⨟ down_of t f (want_of 1) c))
+  unfolding want_of node_bind
   node_def q = kind_form 12 q
 
-  pub node_load : kind_at t c ≡ 13 → node_of t f c ≡ bind_of t 0 c
-  unfolding bind_of
+  pub node_load : kind_at t c ≡ 13 → node_of t f c ≡ node_bind t 0 c
+  unfolding node_bind
   node_load q = kind_form 13 q
 
-  pub node_identifier : kind_at t c ≡ 20 → node_of t f c ≡ use_of (head_at t c)
-  unfolding head_at
+  pub node_identifier : kind_at t c ≡ 20 → node_of t f c ≡ use_of (node_head t c)
+  unfolding node_head
   node_identifier q = kind_form 20 q
 
-  pub node_lambda : kind_at t c ≡ 24 → node_of t f c ≡ (down_of t f (want_of 0) c ⨟ scope (bind_of t 0 c ⨟ down_of t f (want_of 1) c))
-  unfolding want_of bind_of
+  pub node_lambda : kind_at t c ≡ 24 → node_of t f c ≡ (down_of t f (want_of 0) c ⨟ scope (node_bind t 0 c ⨟ down_of t f (want_of 1) c))
+  unfolding want_of node_bind
   node_lambda q = kind_form 24 q
 
   pub node_list : kind_at t c ≡ 25 → node_of t f c ≡ (over_of t f c ⨟ scope (bound_of t f c ⨟ down_of t f (want_of 8) c ⨟ down_of t f (want_of 4) c))
@@ -248,13 +248,13 @@ module _ (t : List ℕ) (f c : ℕ) where
 -- a comprehension's clauses
 module _ (t : List ℕ) (f : ℕ) where
   pub clauses_next : {i e : ℕ} → Part t i e → i < e
-      → clauses_of t f i e ≡ picked (eqb 0 (role_at t i)) (down_of t f (want_of 4) i ⨟ down_of t f (want_of 5) i ⨟ bind_of t 5 i) (clauses_of t f (i + size_at t i) e)
-  unfolding clauses_of visit_of down_of kids_of bind_of want_of head_at
+      → clauses_of t f i e ≡ picked (eqb 0 (role_at t i)) (down_of t f (want_of 4) i ⨟ down_of t f (want_of 5) i ⨟ node_bind t 5 i) (clauses_of t f (i + size_at t i) e)
+  unfolding clauses_of visit_of down_of kids_of node_bind want_of node_head
   clauses_next p lt = ap (takes (named_by f) clauses) (forest_node p lt)
 
   over_at : {i e : ℕ} → Part t i e
       → (child_of t 0 i e < e → visit_of t f first_over i e ≡ down_of t f (want_of 4) (child_of t 0 i e)) × (e ≤ child_of t 0 i e → visit_of t f first_over i e ≡ skip)
-  unfolding visit_of down_of kids_of want_of head_at
+  unfolding visit_of down_of kids_of want_of node_head
   over_at p = find.seek 0 (λ i e. (child_of t 0 i e < e → visit_of t f first_over i e ≡ down_of t f (want_of 4) (child_of t 0 i e)) × (e ≤ child_of t 0 i e → visit_of t f first_over i e ≡ skip)) t
       nothing here next p
     where
@@ -273,26 +273,26 @@ module _ (t : List ℕ) (f : ℕ) where
           ((λ l. s ∙ rw z (ih.0 (rw z at l))), λ l. s ∙ ih.1 (rw z at l))
 
   bound_at : {i e : ℕ} → Part t i e
-      → (child_of t 0 i e < e → visit_of t f first_bound i e ≡ (down_of t f (want_of 5) (child_of t 0 i e) ⨟ bind_of t 5 (child_of t 0 i e) ⨟ clauses_of t f (child_of t 0 i e + size_at t (child_of t 0 i e)) e))
+      → (child_of t 0 i e < e → visit_of t f first_bound i e ≡ (down_of t f (want_of 5) (child_of t 0 i e) ⨟ node_bind t 5 (child_of t 0 i e) ⨟ clauses_of t f (child_of t 0 i e + size_at t (child_of t 0 i e)) e))
       × (e ≤ child_of t 0 i e → visit_of t f first_bound i e ≡ skip)
-  unfolding visit_of down_of kids_of want_of head_at bind_of clauses_of
-  bound_at p = find.seek 0 (λ i e. (child_of t 0 i e < e → visit_of t f first_bound i e ≡ (down_of t f (want_of 5) (child_of t 0 i e) ⨟ bind_of t 5 (child_of t 0 i e) ⨟ clauses_of t f (child_of t 0 i e + size_at t (child_of t 0 i e)) e))
+  unfolding visit_of down_of kids_of want_of node_head node_bind clauses_of
+  bound_at p = find.seek 0 (λ i e. (child_of t 0 i e < e → visit_of t f first_bound i e ≡ (down_of t f (want_of 5) (child_of t 0 i e) ⨟ node_bind t 5 (child_of t 0 i e) ⨟ clauses_of t f (child_of t 0 i e + size_at t (child_of t 0 i e)) e))
       × (e ≤ child_of t 0 i e → visit_of t f first_bound i e ≡ skip)) t
       nothing here next p
     where
-      nothing : (i e : ℕ) → e ≤ i → (child_of t 0 i e < e → visit_of t f first_bound i e ≡ (down_of t f (want_of 5) (child_of t 0 i e) ⨟ bind_of t 5 (child_of t 0 i e) ⨟ clauses_of t f (child_of t 0 i e + size_at t (child_of t 0 i e)) e))
+      nothing : (i e : ℕ) → e ≤ i → (child_of t 0 i e < e → visit_of t f first_bound i e ≡ (down_of t f (want_of 5) (child_of t 0 i e) ⨟ node_bind t 5 (child_of t 0 i e) ⨟ clauses_of t f (child_of t 0 i e + size_at t (child_of t 0 i e)) e))
           × (e ≤ child_of t 0 i e → visit_of t f first_bound i e ≡ skip)
       nothing i e h = ((λ l. absurd (omega (arith, child_end t 0 i e h))), λ l. visit_end t f first_bound i e h)
 
       here : (i e : ℕ) → Part t i e → i < e → role_at t i ≡ 0
-          → (child_of t 0 i e < e → visit_of t f first_bound i e ≡ (down_of t f (want_of 5) (child_of t 0 i e) ⨟ bind_of t 5 (child_of t 0 i e) ⨟ clauses_of t f (child_of t 0 i e + size_at t (child_of t 0 i e)) e))
+          → (child_of t 0 i e < e → visit_of t f first_bound i e ≡ (down_of t f (want_of 5) (child_of t 0 i e) ⨟ node_bind t 5 (child_of t 0 i e) ⨟ clauses_of t f (child_of t 0 i e + size_at t (child_of t 0 i e)) e))
           × (e ≤ child_of t 0 i e → visit_of t f first_bound i e ≡ skip)
       here i e p lt q = ((λ l. rw (child_here t 0 i e lt q) (ap (takes (named_by f) first_bound) (forest_node p lt) ∙ rw (q, step))), λ l. absurd (omega (arith, child_here t 0 i e lt q)))
 
       next : (i e : ℕ) → Part t i e → i < e → (role_at t i ≡ 0 → ⊥)
-          → (child_of t 0 (i + size_at t i) e < e → visit_of t f first_bound (i + size_at t i) e ≡ (down_of t f (want_of 5) (child_of t 0 (i + size_at t i) e) ⨟ bind_of t 5 (child_of t 0 (i + size_at t i) e) ⨟ clauses_of t f (child_of t 0 (i + size_at t i) e + size_at t (child_of t 0 (i + size_at t i) e)) e))
+          → (child_of t 0 (i + size_at t i) e < e → visit_of t f first_bound (i + size_at t i) e ≡ (down_of t f (want_of 5) (child_of t 0 (i + size_at t i) e) ⨟ node_bind t 5 (child_of t 0 (i + size_at t i) e) ⨟ clauses_of t f (child_of t 0 (i + size_at t i) e + size_at t (child_of t 0 (i + size_at t i) e)) e))
           × (e ≤ child_of t 0 (i + size_at t i) e → visit_of t f first_bound (i + size_at t i) e ≡ skip)
-          → (child_of t 0 i e < e → visit_of t f first_bound i e ≡ (down_of t f (want_of 5) (child_of t 0 i e) ⨟ bind_of t 5 (child_of t 0 i e) ⨟ clauses_of t f (child_of t 0 i e + size_at t (child_of t 0 i e)) e))
+          → (child_of t 0 i e < e → visit_of t f first_bound i e ≡ (down_of t f (want_of 5) (child_of t 0 i e) ⨟ node_bind t 5 (child_of t 0 i e) ⨟ clauses_of t f (child_of t 0 i e + size_at t (child_of t 0 i e)) e))
           × (e ≤ child_of t 0 i e → visit_of t f first_bound i e ≡ skip)
       next i e p lt q ih =
           let z = child_next p lt 0 q in
@@ -303,21 +303,21 @@ module _ (t : List ℕ) (f : ℕ) where
   module _ {c d x : ℕ} (n : Node t c d) (q : x ≡ kid_of t 0 c) where
     pub over_there : x < c + size_at t c → over_of t f c ≡ down_of t f (want_of 4) x
     unfolding over_of
-    over_there h = down_visit t f first_over c ∙ (over_at (kids_of n)).0 (rw (← q) h) ∙ rw (← q)
+    over_there h = down_visit t f first_over c ∙ (over_at (kids_held n)).0 (rw (← q) h) ∙ rw (← q)
 
     pub over_none : c + size_at t c ≤ x → over_of t f c ≡ skip
     unfolding over_of
-    over_none h = down_visit t f first_over c ∙ (over_at (kids_of n)).1 (rw (← q) h)
+    over_none h = down_visit t f first_over c ∙ (over_at (kids_held n)).1 (rw (← q) h)
 
     pub bound_there : x < c + size_at t c
-        → bound_of t f c ≡ (down_of t f (want_of 5) x ⨟ bind_of t 5 x ⨟ clauses_of t f (x + size_at t x) (c + size_at t c))
+        → bound_of t f c ≡ (down_of t f (want_of 5) x ⨟ node_bind t 5 x ⨟ clauses_of t f (x + size_at t x) (c + size_at t c))
     unfolding bound_of
-    bound_there h = down_visit t f first_bound c ∙ (bound_at (kids_of n)).0 (rw (← q) h) ∙ rw (← q)
+    bound_there h = down_visit t f first_bound c ∙ (bound_at (kids_held n)).0 (rw (← q) h) ∙ rw (← q)
 
     pub bound_none : c + size_at t c ≤ x → bound_of t f c ≡ skip
     unfolding bound_of
-    bound_none h = down_visit t f first_bound c ∙ (bound_at (kids_of n)).1 (rw (← q) h)
+    bound_none h = down_visit t f first_bound c ∙ (bound_at (kids_held n)).1 (rw (← q) h)
 
     -- the first clause stands below node c
     pub clause_after : c < x
-    clause_after = omega (arith, q, child_ge (kids_of n) 0 (omega (arith, n.some)))
+    clause_after = omega (arith, q, child_ge (kids_held n) 0 (omega (arith, n.some)))

@@ -8,7 +8,7 @@ use mathlib.Core.List.{List}
 use lib.Dec.{eqb}
 use borrow.Author.Tests.{ne_eqb, le-leb, lt-leb}
 use Rattle.tree.specs.Bytes.{pick, kind_at, role_at, size_at}
-use Rattle.tree.specs.Forest.{Head, head_at, forest_of}
+use Rattle.tree.specs.Forest.{Head, node_head, forest_of}
 use Rattle.tree.specs.code.Part.{Part}
 use Rattle.tree.specs.code.Find.{child_of, kid_of}
 use Rattle.tree.proofs.Laws.{later}
@@ -18,10 +18,10 @@ use Rattle.rules.specs.Names.{stop_abort}
 use Rattle.scope.specs.State.{abort_of, Fits}
 use Rattle.scope.specs.Words.{with_abort}
 use Rattle.scope.specs.declared.Abort.TheVariants.{Function}
-use Rattle.names.specs.Walk.{Goes, Turns, Node, named_by, kids_of, want_of, wanted_of, names_of, visit_of, down_of, node_of, name_node, names_in, bind_of, use_of, clauses_of, clause_of, fail_of}
+use Rattle.names.specs.Walk.{Goes, Turns, Node, named_by, kids_of, want_of, wanted_of, names_of, visit_of, down_of, node_of, name_node, names_in, node_bind, node_use, clauses_of, clause_of, fail_of}
 use Rattle.scope.specs.declared.Scope.{Scope}
 use Rattle.names.proofs.Going.{skips, then, picks, goes_as, stop_to, loops_twice, loops_once}
-use Rattle.names.proofs.Parts.{node_return, kids_of, node_in_part, visit_end, visit_next, down_visit, clauses_end, clauses_next, names_end, names_next, names_kids}
+use Rattle.names.proofs.Parts.{node_return, kids_held, node_in_part, visit_end, visit_next, down_visit, clauses_end, clauses_next, names_end, names_next, names_kids}
 
 module _ {t : List ℕ} {d : ℕ} (f : ℕ) where
   pub visit_on : (r : ℕ) {c e : ℕ} → Part t c e → c < e → {w v x : List ℕ} {s q y : Scope}
@@ -36,7 +36,7 @@ module _ {t : List ℕ} {d : ℕ} (f : ℕ) where
       → Goes t d (clause_of t f c) w s v q → Goes t d (clauses_of t f (c + size_at t c) e) v q x y → Goes t d (clauses_of t f c e) w s x y
   unfolding clause_of
   clauses_on {c} {e} p lt g h =
-      goes_as (clauses_next t f p lt) (picks (eqb 0 (role_at t c)) (down_of t f (want_of 4) c ⨟ down_of t f (want_of 5) c ⨟ bind_of t 5 c) (clauses_of t f (c + size_at t c) e) g h)
+      goes_as (clauses_next t f p lt) (picks (eqb 0 (role_at t c)) (down_of t f (want_of 4) c ⨟ down_of t f (want_of 5) c ⨟ node_bind t 5 c) (clauses_of t f (c + size_at t c) e) g h)
 
   pub clauses_last : (c e : ℕ) → e ≤ c → {w : List ℕ} {s : Scope} → Fits w s → Goes t d (clauses_of t f c e) w s w s
   clauses_last c e h g = goes_as (clauses_end t f c e h) (skips g)
@@ -52,17 +52,17 @@ module _ {t : List ℕ} (r : ℕ) (u : Bool) {d : ℕ} where
 -- a node's own parts, by its size as read
 module _ (t : List ℕ) (c z : ℕ) (q : z ≡ size_at t c) where
   pub kids_as : {d : ℕ} → Node t c d → Part t (c + 1) (c + z)
-  kids_as n = rw q (kids_of n)
+  kids_as n = rw q (kids_held n)
 
   pub down_as : (f : ℕ) (v : Want) → down_of t f v c ≡ visit_of t f v (c + 1) (c + z)
   down_as f v = rw q (down_visit t f v c)
 
-  pub names_as : (r : ℕ) (u : Bool) → pick u (use_of t r c) (bind_of t r c) ≡ names_in u t r (c + 1) (c + z)
+  pub names_as : (r : ℕ) (u : Bool) → pick u (node_use t r c) (node_bind t r c) ≡ names_in u t r (c + 1) (c + z)
   names_as r u = rw q (names_kids t r u c)
 
   pub fail_as : (f : ℕ) {d : ℕ} {b : Bool} → Node t c d → (Part t (c + 1) (c + z) → b ≡ fail_called (named_by f) (forest_of t (c + 1) (c + z))) → b ≡ fail_of t f c
   unfolding fail_of kids_of
-  fail_as f n h = (rw q at h) (kids_of n)
+  fail_as f n h = (rw q at h) (kids_held n)
 
   pub kid_as : (r : ℕ) {x : ℕ} → x ≡ child_of t r (c + 1) (c + z) → x ≡ kid_of t r c
   kid_as r e = rw q at e
@@ -106,7 +106,7 @@ module _ (t : List ℕ) (f i : ℕ) where
   unfolding clause_of
   clause_none h = rw (ne_eqb 0 (role_at t i) (λ z. h (sym z)))
 
-  pub clause_there : role_at t i ≡ 0 → clause_of t f i ≡ (down_of t f (want_of 4) i ⨟ down_of t f (want_of 5) i ⨟ bind_of t 5 i)
+  pub clause_there : role_at t i ≡ 0 → clause_of t f i ≡ (down_of t f (want_of 4) i ⨟ down_of t f (want_of 5) i ⨟ node_bind t 5 i)
   unfolding clause_of
   clause_there h = rw h
 
@@ -134,7 +134,7 @@ pub return_node : (t : List ℕ) (f c : ℕ) → kind_at t c ≡ 4 → {d : ℕ}
     → Goes t d (node_of t f c) w s v r
 return_node t f c k g e =
     goes_as (node_return t f c k)
-    (then g (stop_to (cond (has 4 (kids_of t c)) valued (bare (head_at t c))) Function (return_abort (has 4 (kids_of t c)) (head_at t c)) e g.does.fits))
+    (then g (stop_to (cond (has 4 (kids_of t c)) valued (bare (node_head t c))) Function (return_abort (has 4 (kids_of t c)) (node_head t c)) e g.does.fits))
 
 -- the tests, as the code takes them
 pub names_first : {k : ℕ} → k ≡ 40 → true ≡ names_of k

@@ -1,14 +1,14 @@
 -- The records of the warnings that stand in the words. Assumes nothing.
 use Rattle.std.specs.Prelude.{ℕ, ◌+◌, List, ◌++◌, ltb, get_or, take, drop}
 use Rattle.tree.specs.Bytes.{pick}
-use Rattle.tree.specs.Forest.{head_at}
+use Rattle.tree.specs.Forest.{node_head}
 use Rattle.rules.specs.Record.{Rec, named_at}
 use Rattle.scope.specs.Lists.{places}
 use Rattle.meeting.specs.Words.{first_words}
 
 -- the k-th: its code, and the node that it is at
 unfoldable pub record_in : List ℕ → List ℕ → ℕ → Rec
-record_in t w k = named_at (get_or w (4096 + k) 0) (head_at t (get_or w (3072 + k) 0))
+record_in t w k = named_at (get_or w (4096 + k) 0) (node_head t (get_or w (3072 + k) 0))
 
 -- the first n
 unfoldable pub records_of : List ℕ → List ℕ → ℕ → List Rec

@@ -1,7 +1,7 @@
 -- What the walk does for each part of the tree that it goes through. Assumes nothing.
 use Rattle.std.specs.Prelude.{ℕ, ◌+◌, ◌≤◌, Bool, ◌||◌, List, eqb, length}
 use Rattle.tree.specs.Bytes.{pick, role_at, size_at}
-use Rattle.tree.specs.Forest.{Forest, head_at, forest_of}
+use Rattle.tree.specs.Forest.{Forest, node_head, forest_of}
 use Rattle.tree.specs.code.Part.{Part}
 use Rattle.tree.specs.Table.{table_of, underscored, globals_of}
 use Rattle.tree.specs.code.Numbers.{number_named}
@@ -38,7 +38,7 @@ unfoldable pub down_of : List ℕ → ℕ → Want → ℕ → Cmd
 down_of t f v c = takes (named_by f) v (kids_of t c)
 
 unfoldable pub node_of : List ℕ → ℕ → ℕ → Cmd
-node_of t f c = part (named_by f) (form_of (head_at t c)) (head_at t c) (kids_of t c) (λ v. down_of t f v c)
+node_of t f c = part (named_by f) (form_of (node_head t c)) (node_head t c) (kids_of t c) (λ v. down_of t f v c)
 
 unfoldable pub wanted_of : List ℕ → ℕ → ℕ → Bool
 wanted_of t r c = eqb r 9 || eqb r (role_at t c)
@@ -48,15 +48,15 @@ unfoldable pub names_of : ℕ → Bool
 names_of k = eqb k 40 || (eqb k 43 || eqb k 47)
 
 -- the names that children of role r of node c bind, set and used
-unfoldable pub bind_of : List ℕ → ℕ → ℕ → Cmd
-bind_of t r c = binds r (kids_of t c)
+unfoldable pub node_bind : List ℕ → ℕ → ℕ → Cmd
+node_bind t r c = binds r (kids_of t c)
 
-unfoldable pub use_of : List ℕ → ℕ → ℕ → Cmd
-use_of t r c = uses r (kids_of t c)
+unfoldable pub node_use : List ℕ → ℕ → ℕ → Cmd
+node_use t r c = uses r (kids_of t c)
 
 -- the names that node c binds, and that the nodes of role r from i up to e bind: used where u, else set
 unfoldable pub name_node : Bool → List ℕ → ℕ → Cmd
-name_node u t c = pick u (use_part (bind_of (head_at t c)) (head_at t c) (λ v. uses v (kids_of t c))) (bind_part (bind_of (head_at t c)) (head_at t c) (λ v. binds v (kids_of t c)))
+name_node u t c = pick u (use_part (bind_of (node_head t c)) (node_head t c) (λ v. uses v (kids_of t c))) (bind_part (bind_of (node_head t c)) (node_head t c) (λ v. binds v (kids_of t c)))
 
 unfoldable pub names_in : Bool → List ℕ → ℕ → ℕ → ℕ → Cmd
 names_in u t r i e = pick u (uses r (forest_of t i e)) (binds r (forest_of t i e))
@@ -72,7 +72,7 @@ unfoldable pub clauses_of : List ℕ → ℕ → ℕ → ℕ → Cmd
 clauses_of t f i e = visit_of t f clauses i e
 
 unfoldable pub clause_of : List ℕ → ℕ → ℕ → Cmd
-clause_of t f i = pick (eqb 0 (role_at t i)) (down_of t f (want_of 4) i ⨟ down_of t f (want_of 5) i ⨟ bind_of t 5 i) skip
+clause_of t f i = pick (eqb 0 (role_at t i)) (down_of t f (want_of 4) i ⨟ down_of t f (want_of 5) i ⨟ node_bind t 5 i) skip
 
 unfoldable pub over_of : List ℕ → ℕ → ℕ → Cmd
 over_of t f c = down_of t f first_over c

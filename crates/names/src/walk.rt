@@ -2,12 +2,12 @@
 // A scope is a kilobyte and the walk recurs: where it spares a frame one, a call's result goes where its argument was.
 ghost use Rattle.std.specs.Prelude.{◌≡◌, ℕ, ◌+◌, ◌<◌, ◌≤◌, eqb};
 ghost use Rattle.tree.specs.Bytes.{pick, kind_at, role_at, size_at};
-ghost use Rattle.tree.specs.Forest.{head_at};
+ghost use Rattle.tree.specs.Forest.{node_head};
 ghost use Rattle.tree.specs.code.Part.{Part};
 ghost use Rattle.tree.specs.code.Find.{kid_of};
 ghost use Rattle.rules.specs.Order.{◌⨟◌, skip, use_of, set_of, branch, scope};
 ghost use Rattle.scope.specs.State.{sort_of, Fits};
-ghost use Rattle.names.specs.Walk.{Goes, Turns, Node, want_of, wanted_of, names_of, visit_of, down_of, node_of, bind_of, use_of, name_node, clauses_of, clause_of, over_of, bound_of};
+ghost use Rattle.names.specs.Walk.{Goes, Turns, Node, want_of, wanted_of, names_of, visit_of, down_of, node_of, node_bind, node_use, name_node, clauses_of, clause_of, over_of, bound_of};
 
 use fail::is_fail;
 use scope::{Abort, Scope};
@@ -161,7 +161,7 @@ fn modify(t: &[u8], c: usize, d: usize, f: usize, w: &mut [u16], s: Scope) -> Sc
 #[cycle(walking)]
 fn assign(t: &[u8], c: usize, d: usize, f: usize, w: &mut [u16], s: Scope) -> Scope
     requires { Node t.now c d × Fits w.old s }
-    ensures { Goes t.now d (down_of t.now f (want_of 5) c ⨟ bind_of t.now 5 c) w.old s w.new result }
+    ensures { Goes t.now d (down_of t.now f (want_of 5) c ⨟ node_bind t.now 5 c) w.old s w.new result }
 {
     let mut a = down(t, c, 5, d, f, w, s);
     a = bind(t, c, 5, false, w, a);
@@ -243,7 +243,7 @@ fn loops(t: &[u8], c: usize, d: usize, f: usize, w: &mut [u16], s: Scope) -> Sco
 #[cycle(walking)]
 fn turn(t: &[u8], c: usize, d: usize, f: usize, w: &mut [u16], s: Scope) -> Scope
     requires { Node t.now c d × Fits w.old s }
-    ensures { Turns t.now d (down_of t.now f (want_of 5) c ⨟ bind_of t.now 5 c ⨟ down_of t.now f (want_of 1) c) w.old s w.new result }
+    ensures { Turns t.now d (down_of t.now f (want_of 5) c ⨟ node_bind t.now 5 c ⨟ down_of t.now f (want_of 1) c) w.old s w.new result }
 {
     let x = assign(t, c, d, f, w, s);
     let a = down(t, c, 1, d, f, w, x);
@@ -267,7 +267,7 @@ fn def(t: &[u8], c: usize, d: usize, f: usize, w: &mut [u16], s: Scope) -> Scope
 #[cycle(walking)]
 fn body(t: &[u8], c: usize, d: usize, f: usize, w: &mut [u16], s: Scope) -> Scope
     requires { Node t.now c d × Fits w.old s }
-    ensures { Goes t.now d (scope (bind_of t.now 0 c ⨟ down_of t.now f (want_of 1) c)) w.old s w.new result }
+    ensures { Goes t.now d (scope (node_bind t.now 0 c ⨟ down_of t.now f (want_of 1) c)) w.old s w.new result }
 {
     let a = bind(t, c, 0, false, w, s.enter());
     let b = down(t, c, 1, d, f, w, a);
@@ -386,7 +386,7 @@ fn clause(t: &[u8], i: usize, d: usize, f: usize, w: &mut [u16], s: Scope) -> Sc
 #[cycle(binding)]
 fn bind(t: &[u8], c: usize, r: usize, uses: bool, w: &mut [u16], s: Scope) -> Scope
     requires { Node t.now c 0 × Fits w.old s }
-    ensures { (d : ℕ) → Goes t.now d (pick uses (use_of t.now r c) (bind_of t.now r c)) w.old s w.new result }
+    ensures { (d : ℕ) → Goes t.now d (pick uses (node_use t.now r c) (node_bind t.now r c)) w.old s w.new result }
 {
     let e = c + size_at(t, c);
     let mut z = s;
@@ -419,7 +419,7 @@ fn bind_one(t: &[u8], i: usize, r: usize, uses: bool, w: &mut [u16], s: Scope) -
 // The name of node i: used where `uses`, else set.
 fn ident(t: &[u8], i: usize, uses: bool, w: &mut [u16], s: Scope) -> Scope
     requires { Node t.now i 0 × Fits w.old s }
-    ensures { (d : ℕ) → Goes t.now d (pick uses (use_of (head_at t.now i)) (set_of (sort_of (kind_at t.now i)) (head_at t.now i))) w.old s w.new result }
+    ensures { (d : ℕ) → Goes t.now d (pick uses (use_of (node_head t.now i)) (set_of (sort_of (kind_at t.now i)) (node_head t.now i))) w.old s w.new result }
 {
     if uses {
         return s.used(t, w, i);

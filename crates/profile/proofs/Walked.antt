@@ -9,7 +9,7 @@ use mathlib.Core.Option.{Option, none, some}
 use lib.Dec.{eqb, ltb}
 use borrow.Author.Tests.{ne_eqb, lt-ltb, le-ltb}
 use Rattle.tree.specs.Bytes.{size_at, value_at, pick}
-use Rattle.tree.specs.Forest.{Head, Forest, Forest.none as leaf, node, spot_at, head_at, forest_of}
+use Rattle.tree.specs.Forest.{Head, Forest, Forest.none as leaf, node, node_spot, node_head, forest_of}
 use Rattle.tree.specs.code.Part.{Part}
 use Rattle.tree.proofs.Laws.{ended, sized, first, forest_none, forest_node, forest_one}
 use Rattle.rules.specs.Record.{Rec, no_span, plainly, also_at, listed}
@@ -75,18 +75,18 @@ walk_whole f = walk_is says_nothing [] f
 -- ---- the walk by node numbers
 
 module _ {t : List ℕ} {i j e : ℕ} (p : Part t i j) (q : Part t j e) (le : i ≤ j) (lt : j < e) where
-  siblings_next : siblings (forest_of t i (j + size_at t j)) ≡ siblings (forest_of t i j) ++ (head_at t j ∷ [])
+  siblings_next : siblings (forest_of t i (j + size_at t j)) ≡ siblings (forest_of t i j) ++ (node_head t j ∷ [])
   siblings_next =
       split siblings (λ h k. h ∷ []) refl (λ h k s. refl) p (first q lt) le (omega arith)
       ∙ ap (λ (f : Forest). siblings (forest_of t i j) ++ siblings f) (forest_one q lt)
 
   -- node j after its siblings, and those after it
   pub walk_next : (a : Above) → walk a (siblings (forest_of t i j)) (forest_of t j e)
-      ≡ node_walk a (siblings (forest_of t i j)) (head_at t j) (forest_of t (j + 1) (j + size_at t j)) ++ walk a (siblings (forest_of t i (j + size_at t j))) (forest_of t (j + size_at t j) e)
+      ≡ node_walk a (siblings (forest_of t i j)) (node_head t j) (forest_of t (j + 1) (j + size_at t j)) ++ walk a (siblings (forest_of t i (j + size_at t j))) (forest_of t (j + size_at t j) e)
   unfolding walk
   walk_next a =
       let es = siblings (forest_of t i j) in
-      let h = head_at t j in
+      let h = node_head t j in
       let k = forest_of t (j + 1) (j + size_at t j) in
       let s = forest_of t (j + size_at t j) e in
       ap (walk a es) (forest_node q lt)
@@ -104,13 +104,13 @@ walk_end a es t j e h = ap (walk a es) (forest_none t j e h)
 
 module _ {t : List ℕ} {m j : ℕ} (p : Part t m j) (lt : m < j) (name : ℕ) where
   named_next : first_named name (siblings (forest_of t m j))
-      ≡ cond (is_named name (head_at t m)) (some (head_at t m)) (first_named name (siblings (forest_of t (m + size_at t m) j)))
+      ≡ cond (is_named name (node_head t m)) (some (node_head t m)) (first_named name (siblings (forest_of t (m + size_at t m) j)))
   named_next = ap (λ (f : Forest). first_named name (siblings f)) (forest_node p lt)
 
-  pub named_here : is_named name (head_at t m) ≡ true → first_named name (siblings (forest_of t m j)) ≡ found t m j
+  pub named_here : is_named name (node_head t m) ≡ true → first_named name (siblings (forest_of t m j)) ≡ found t m j
   named_here e = named_next ∙ rw (e, lt-ltb m j lt)
 
-  pub named_on : is_named name (head_at t m) ≡ false
+  pub named_on : is_named name (node_head t m) ≡ false
       → first_named name (siblings (forest_of t m j)) ≡ first_named name (siblings (forest_of t (m + size_at t m) j))
   named_on e = named_next ∙ rw e
 
@@ -121,19 +121,19 @@ named_nowhere name t m j h =
 pub found_none : (t : List ℕ) (r j : ℕ) → j ≤ r → found t r j ≡ none
 found_none t r j h = rw (le-ltb r j h)
 
-pub found_some : (t : List ℕ) (r j : ℕ) → r < j → found t r j ≡ some (head_at t r)
+pub found_some : (t : List ℕ) (r j : ℕ) → r < j → found t r j ≡ some (node_head t r)
 found_some t r j h = rw (lt-ltb r j h)
 
 -- ---- what a node's own functions give
 
 module _ (t : List ℕ) (r i j : ℕ) (e : first_named (value_at t j) (siblings (forest_of t i j)) ≡ found t r j) where
-  pub again_none : j ≤ r → again (head_at t j) (siblings (forest_of t i j)) ≡ []
-  unfolding head_at spot_at
-  again_none h = ap (repeated (head_at t j)) (e ∙ found_none t r j h)
+  pub again_none : j ≤ r → again (node_head t j) (siblings (forest_of t i j)) ≡ []
+  unfolding node_head node_spot
+  again_none h = ap (repeated (node_head t j)) (e ∙ found_none t r j h)
 
-  pub again_some : r < j → again (head_at t j) (siblings (forest_of t i j)) ≡ also_at 22 (head_at t j) (head_at t j).spot.value (head_at t r) no_span ∷ []
-  unfolding head_at spot_at
-  again_some h = ap (repeated (head_at t j)) (e ∙ found_some t r j h)
+  pub again_some : r < j → again (node_head t j) (siblings (forest_of t i j)) ≡ also_at 22 (node_head t j) (node_head t j).spot.value (node_head t r) no_span ∷ []
+  unfolding node_head node_spot
+  again_some h = ap (repeated (node_head t j)) (e ∙ found_some t r j h)
 
 module _ (a : Above) (h : Head) where
   pub code_18 : branches h.kind ≡ true → code_at a h ≡ pick a.within 0 18

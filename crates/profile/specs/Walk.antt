@@ -2,7 +2,7 @@
 -- Nobody has to believe them: proofs/Walked shows that these are the conditions of 02, §10, and that the walk gives their list.
 use Rattle.std.specs.Prelude.{ℕ, Bool, true, false, cond, ◌&&◌, ◌||◌, not, List, [], ◌∷◌, ◌++◌, eqb, ltb}
 use Rattle.std.proofs.Math.Option.{Option, none, some}
-use Rattle.tree.specs.Forest.{Head, Forest, Forest.none as leaf, node, head_at}
+use Rattle.tree.specs.Forest.{Head, Forest, Forest.none as leaf, node, node_head}
 use Rattle.rules.specs.Record.{Rec}
 use Rattle.rules.specs.Profile.{first_named, repeated}
 use Rattle.rules.specs.code.Single.{code_by, single}
@@ -41,7 +41,7 @@ siblings (node h k s) = h ∷ siblings s
 
 -- node r, where it is below node j
 abbrev pub found : List ℕ → ℕ → ℕ → Option Head
-found t r j = cond (ltb r j) (some (head_at t r)) none
+found t r j = cond (ltb r j) (some (node_head t r)) none
 
 -- 22 for a parameter after these siblings
 abbrev pub again : Head → List Head → List Rec

@@ -6,7 +6,7 @@
 
 ghost use Rattle.std.specs.Prelude.{◌≡◌, [], ◌||◌, ◌+◌, ◌*◌, ◌≤◌, ◌<◌, length};
 ghost use Rattle.tree.specs.Bytes.{size_at, value_at, pick};
-ghost use Rattle.tree.specs.Forest.{head_at, forest_of};
+ghost use Rattle.tree.specs.Forest.{node_head, forest_of};
 ghost use Rattle.tree.specs.code.Part.{Part, Subtree};
 ghost use Rattle.tree.specs.Judge.{judged};
 ghost use Rattle.tree.specs.declared.Judged.TheVariants.{Valid};
@@ -37,7 +37,7 @@ struct Above {
 
 // Node j, one of them, stands in a loop.
 fn in_loop(t: &[u8], a: Above, j: usize) -> bool
-    ensures { result ≡ loops a (head_at t.now j) }
+    ensures { result ≡ loops a (node_head t.now j) }
 {
     if a.kind == 12 {
         return false;
@@ -52,7 +52,7 @@ fn in_loop(t: &[u8], a: Above, j: usize) -> bool
 
 // The same of the children of node j.
 fn below(t: &[u8], a: Above, j: usize) -> Above
-    ensures { result ≡ below a (head_at t.now j) }
+    ensures { result ≡ below a (node_head t.now j) }
 {
     let kind = kind_at(t, j);
     let looped = in_loop(t, a, j);
@@ -98,7 +98,7 @@ fn jumps(k: usize) -> bool
 
 // The code of node j, of 18 to 21; 0 where it has none.
 fn code_at(t: &[u8], a: Above, j: usize) -> u32
-    ensures { result ≡ code_at a (head_at t.now j) }
+    ensures { result ≡ code_at a (node_head t.now j) }
 {
     let k = kind_at(t, j);
     if branches(k) {
@@ -127,7 +127,7 @@ fn unless(so: bool, code: u32) -> u32
 
 // Node m is a parameter of this name.
 fn is_named(t: &[u8], m: usize, name: usize) -> bool
-    ensures { result ≡ is_named name (head_at t.now m) }
+    ensures { result ≡ is_named name (node_head t.now m) }
 {
     if kind_at(t, m) != 43 {
         return false;
@@ -154,7 +154,7 @@ fn first_named(t: &[u8], i: usize, j: usize) -> usize
 // 22 at node j, a parameter, where an earlier one has its name.
 fn parameter(t: &[u8], i: usize, j: usize, out: &mut [u32], n: usize) -> usize
     requires { Part t.now i j }
-    ensures { untallied out.new result ≡ writes (untallied out.old n) (again (head_at t.now j) (siblings (forest_of t.now i j))) }
+    ensures { untallied out.new result ≡ writes (untallied out.old n) (again (node_head t.now j) (siblings (forest_of t.now i j))) }
 {
     let first = first_named(t, i, j);
     if j <= first {
@@ -177,7 +177,7 @@ fn parameter(t: &[u8], i: usize, j: usize, out: &mut [u32], n: usize) -> usize
 // What node j itself has; i: its first sibling.
 fn own(t: &[u8], a: Above, i: usize, j: usize, out: &mut [u32], n: usize) -> usize
     requires { Part t.now i j }
-    ensures { untallied out.new result ≡ writes (untallied out.old n) (own a (siblings (forest_of t.now i j)) (head_at t.now j)) }
+    ensures { untallied out.new result ≡ writes (untallied out.old n) (own a (siblings (forest_of t.now i j)) (node_head t.now j)) }
 {
     if kind_at(t, j) == 43 {
         return parameter(t, i, j, out, n);
@@ -193,7 +193,7 @@ fn own(t: &[u8], a: Above, i: usize, j: usize, out: &mut [u32], n: usize) -> usi
 #[cycle(noding)]
 fn node(t: &[u8], a: Above, i: usize, j: usize, out: &mut [u32], n: usize) -> usize
     requires { Part t.now i j × Subtree t.now j }
-    ensures { untallied out.new result ≡ writes (untallied out.old n) (node_walk a (siblings (forest_of t.now i j)) (head_at t.now j) (forest_of t.now (j + 1) (j + size_at t.now j))) }
+    ensures { untallied out.new result ≡ writes (untallied out.old n) (node_walk a (siblings (forest_of t.now i j)) (node_head t.now j) (forest_of t.now (j + 1) (j + size_at t.now j))) }
 {
     let so_far = own(t, a, i, j, out, n);
     let e = j + size_at(t, j);

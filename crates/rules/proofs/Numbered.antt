@@ -4,7 +4,7 @@ use native.Mathlib.Omega.{arith}
 use mathlib.Core.Path.{◌≡◌, ap}
 use mathlib.Core.Bool.{Bool}
 use mathlib.Core.List.{List}
-use Rattle.tree.specs.Forest.{Head, head_at, forest_of}
+use Rattle.tree.specs.Forest.{Head, node_head, forest_of}
 use Rattle.tree.specs.code.Part.{Part}
 use Rattle.tree.proofs.Laws.{forest_none, forest_node, ended, induct}
 use Rattle.tree.proofs.Fields.{number_own}
@@ -15,11 +15,11 @@ use Rattle.rules.proofs.Meets.{Within, takes_met}
 
 -- the head of a node below n, with its own number
 abbrev pub Own : List ℕ → ℕ → Head → Type 0
-Own t n h = (head_at t h.number ≡ h) × (h.number < n)
+Own t n h = (node_head t h.number ≡ h) × (h.number < n)
 
 module _ (t : List ℕ) (n : ℕ) (few : n ≤ 1024) where
-  own_here : (i : ℕ) → i < n → Own t n (head_at t i)
-  own_here i lt = let e : (head_at t i).number ≡ i = number_own t i (omega arith) in (ap (head_at t) e, rw e lt)
+  own_here : (i : ℕ) → i < n → Own t n (node_head t i)
+  own_here i lt = let e : (node_head t i).number ≡ i = number_own t i (omega arith) in (ap (node_head t) e, rw e lt)
 
   part_own : {i e : ℕ} → Part t i e → e ≤ n → Within (Own t n) (forest_of t i e)
   part_own p = induct (λ i e. e ≤ n → Within (Own t n) (forest_of t i e)) t

@@ -6,7 +6,7 @@ use mathlib.Core.Bool.{Bool, true, false}
 use mathlib.Core.List.{List, [], ◌∷◌}
 use lib.Dec.{leb, T}
 use Rattle.tree.specs.Bytes.{u16_at, u32_at, node_count, kind_at, role_at, size_at, begin_at, end_at, value_at}
-use Rattle.tree.specs.Forest.{spot_at, head_at, forest_in, forest_of, tree_of}
+use Rattle.tree.specs.Forest.{node_spot, node_head, forest_in, forest_of, tree_of}
 use Rattle.rules.specs.Order.{Cmd, skip, ◌⨟◌, use_of, set_of, stop, branch, loop, scope, body}
 use Rattle.tree.specs.Children.{class_of, slot_of, kids_fit, all_stand, all_filled, many, in_order, in_pairs, for_first}
 use Rattle.tree.specs.code.Shape.{valid, root_fits, fitting}
@@ -81,9 +81,9 @@ nest =
     ∷ [])
 
 nest_valid : T (valid (tree_of nest))
-unfolding valid root_fits fitting kids_fit all_stand all_filled many in_order in_pairs for_first class_of slot_of u16_at u32_at node_count kind_at role_at size_at begin_at end_at value_at spot_at head_at forest_in forest_of tree_of
+unfolding valid root_fits fitting kids_fit all_stand all_filled many in_order in_pairs for_first class_of slot_of u16_at u32_at node_count kind_at role_at size_at begin_at end_at value_at node_spot node_head forest_in forest_of tree_of
 nest_valid = tt
 
 pub sevenfold : peak 0 (body (λ x. false) (tree_of nest)) start ≡ 14
-unfolding u16_at u32_at node_count kind_at role_at size_at begin_at end_at value_at spot_at head_at forest_in forest_of tree_of
+unfolding u16_at u32_at node_count kind_at role_at size_at begin_at end_at value_at node_spot node_head forest_in forest_of tree_of
 sevenfold = refl

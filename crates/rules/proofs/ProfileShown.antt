@@ -4,7 +4,7 @@ use mathlib.Core.Bool.{true, ◌&&◌}
 use mathlib.Core.List.{List, []}
 use Rattle.tree.specs.Search.{first}
 use Rattle.tree.specs.Bytes.{u16_at, u32_at, version_of, node_count, value_count, global_count, kind_at, role_at, size_at, begin_at, end_at, value_at, last_at}
-use Rattle.tree.specs.Forest.{spot_at, head_at, forest_in, forest_of, tree_of}
+use Rattle.tree.specs.Forest.{node_spot, node_head, forest_in, forest_of, tree_of}
 use Rattle.tree.specs.Values.{offset, formed, precedes}
 use Rattle.tree.specs.Table.{wrong_value, wrong_global}
 use Rattle.tree.specs.Nodes.{parent_in, parent_of, limit_of, known, wrong_node, depth_in, depth_of, too_deep}
@@ -21,10 +21,10 @@ use Rattle.rules.specs.Examples.{unused_load}
 use Rattle.rules.specs.ProfileExamples.{profile_rows, profiles_hold, partners_joined}
 
 pub profiles_shown : (profiles_hold profile_rows && (partners_joined Ordinary && partners_joined Strict)) ≡ true
-unfolding judged checks facts_of first u16_at u32_at version_of node_count value_count global_count kind_at role_at size_at begin_at end_at value_at last_at spot_at head_at forest_in forest_of tree_of offset formed precedes wrong_value wrong_global parent_in parent_of limit_of known wrong_node depth_in depth_of too_deep class_of slot_of all_stand many all_filled in_pairs for_first in_order kids_fit root_ok wrong_children met_in names_list flow_list incompatible_list dubious_list lint_list profile profile_list
+unfolding judged checks facts_of first u16_at u32_at version_of node_count value_count global_count kind_at role_at size_at begin_at end_at value_at last_at node_spot node_head forest_in forest_of tree_of offset formed precedes wrong_value wrong_global parent_in parent_of limit_of known wrong_node depth_in depth_of too_deep class_of slot_of all_stand many all_filled in_pairs for_first in_order kids_fit root_ok wrong_children met_in names_list flow_list incompatible_list dubious_list lint_list profile profile_list
 profiles_shown = refl
 
 -- a load that is the root: no list is above it either
 pub lone_load : profile_list unused_load ≡ []
-unfolding u16_at u32_at node_count kind_at role_at size_at begin_at end_at value_at spot_at head_at forest_in forest_of tree_of profile profile_list
+unfolding u16_at u32_at node_count kind_at role_at size_at begin_at end_at value_at node_spot node_head forest_in forest_of tree_of profile profile_list
 lone_load = refl

@@ -8,7 +8,7 @@ use mathlib.Core.List.{List}
 use lib.Dec.{eqb}
 use lib.ListN.{length}
 use Rattle.tree.specs.Bytes.{u16_at, u32_at, version_of, node_count, value_count, global_count, kind_at, role_at, size_at, begin_at, end_at, value_at, last_at}
-use Rattle.tree.specs.Forest.{spot_at, head_at, forest_in, forest_of, tree_of}
+use Rattle.tree.specs.Forest.{node_spot, node_head, forest_in, forest_of, tree_of}
 use Rattle.tree.specs.Search.{first}
 use Rattle.tree.specs.Values.{offset, formed, precedes}
 use Rattle.tree.specs.Table.{wrong_value, wrong_global}
@@ -54,12 +54,12 @@ abbrev IsValid : List ℕ → Type 0
 IsValid t = judged t ≡ Valid (facts_of t)
 
 pub releases_valid : ((IsValid (release_1 1) × IsValid (release_2 1)) × (IsValid (release_1 2) × IsValid (release_2 2))) × IsValid (not_released 1)
-unfolding judged checks first u16_at u32_at version_of node_count value_count global_count kind_at role_at size_at begin_at end_at value_at last_at spot_at head_at forest_in forest_of tree_of offset formed precedes wrong_value wrong_global parent_in parent_of limit_of known wrong_node depth_in depth_of too_deep class_of slot_of all_stand many all_filled in_pairs for_first in_order kids_fit root_ok wrong_children
+unfolding judged checks first u16_at u32_at version_of node_count value_count global_count kind_at role_at size_at begin_at end_at value_at last_at node_spot node_head forest_in forest_of tree_of offset formed precedes wrong_value wrong_global parent_in parent_of limit_of known wrong_node depth_in depth_of too_deep class_of slot_of all_stand many all_filled in_pairs for_first in_order kids_fit root_ok wrong_children
 releases_valid = (((refl, refl), (refl, refl)), refl)
 
 -- how many records the lists have, without globals and with two
 lengths : (mode : Mode) → (length (lint_list mode (not_released 1)) ≡ 2) × (length (lint_list mode (release_1 1)) ≡ 3)
-unfolding u16_at u32_at version_of node_count value_count global_count kind_at role_at size_at begin_at end_at value_at last_at spot_at head_at forest_in forest_of tree_of offset met_in names_list flow_list incompatible_list dubious_list lint_list
+unfolding u16_at u32_at version_of node_count value_count global_count kind_at role_at size_at begin_at end_at value_at last_at node_spot node_head forest_in forest_of tree_of offset met_in names_list flow_list incompatible_list dubious_list lint_list
 lengths Ordinary = (refl, refl)
 lengths Strict = (refl, refl)
 

@@ -11,7 +11,7 @@ use native.Mathlib.Omega.{arith}
 use lib.Dec.{eqb, T}
 use Rattle.tree.specs.Search.{first as first-of-places}
 use Rattle.tree.specs.Bytes.{u16_at, u32_at, version_of, node_count, value_count, global_count, kind_at, role_at, size_at, begin_at, end_at, value_at, last_at}
-use Rattle.tree.specs.Forest.{Head, Forest, Forest.none as leaf, node, spot_at, head_at, forest_in, forest_of, tree_of}
+use Rattle.tree.specs.Forest.{Head, Forest, Forest.none as leaf, node, node_spot, node_head, forest_in, forest_of, tree_of}
 use Rattle.tree.specs.Values.{offset, formed, precedes}
 use Rattle.tree.specs.Table.{table_of, spells, wrong_value, wrong_global}
 use Rattle.tree.specs.Nodes.{parent_in, parent_of, limit_of, known, wrong_node, depth_in, depth_of, too_deep}
@@ -413,7 +413,7 @@ swapped_list = refl
 -- A FILE'S BYTES: 01's for i in xs with print(a), a = 1 inside (Known). It is judged valid, its tree meets the premises, a run reaches
 -- the use of a in the first round, and so the use is told; under 6, as the list shows.
 pub bytes_valid : judged looped-file ≡ Valid (record { version = 1; nodes = 12; values = 5; names = 4; globals = 65535; rest = 228 })
-unfolding judged checks facts_of first-of-places u16_at u32_at version_of node_count value_count global_count kind_at role_at size_at begin_at end_at value_at last_at spot_at head_at forest_in forest_of tree_of offset formed precedes wrong_value wrong_global parent_in parent_of limit_of known wrong_node depth_in depth_of too_deep class_of slot_of all_stand many all_filled in_pairs for_first in_order kids_fit root_ok wrong_children
+unfolding judged checks facts_of first-of-places u16_at u32_at version_of node_count value_count global_count kind_at role_at size_at begin_at end_at value_at last_at node_spot node_head forest_in forest_of tree_of offset formed precedes wrong_value wrong_global parent_in parent_of limit_of known wrong_node depth_in depth_of too_deep class_of slot_of all_stand many all_filled in_pairs for_first in_order kids_fit root_ok wrong_children
 bytes_valid = refl
 
 -- its tree, drawn, each node with its number
@@ -430,7 +430,7 @@ abbrev printed_a : Head
 printed_a = numbered 8 20 0 21 22 0
 
 bytes_tree : tree_of looped-file ≡ drawn
-unfolding u16_at u32_at node_count value_count kind_at role_at size_at begin_at end_at value_at spot_at head_at forest_in forest_of tree_of
+unfolding u16_at u32_at node_count value_count kind_at role_at size_at begin_at end_at value_at node_spot node_head forest_in forest_of tree_of
 bytes_tree = refl
 
 pub bytes_premises : Premises (tree_of looped-file)
@@ -458,5 +458,5 @@ bytes_told = (the_demand looped-file (record { version = 1; nodes = 12; values =
     ).unset of_module printed_a bytes_own bytes_reached
 
 pub bytes_list : names_list looped-file ≡ named_at 6 printed_a ∷ []
-unfolding u16_at u32_at node_count value_count kind_at role_at size_at begin_at end_at value_at spot_at head_at forest_in forest_of tree_of global_count offset met_in names_list
+unfolding u16_at u32_at node_count value_count kind_at role_at size_at begin_at end_at value_at node_spot node_head forest_in forest_of tree_of global_count offset met_in names_list
 bytes_list = refl

@@ -11,7 +11,7 @@ use lib.Dec.{eqb}
 use lib.ListN.{length, get_or, drop, length-append}
 use borrow.Author.Tests.{ne_eqb}
 use Rattle.tree.specs.Bytes.{pick, node_count, size_at}
-use Rattle.tree.specs.Forest.{Head, Forest, Forest.none as leaf, node, head_at, forest_of, tree_of}
+use Rattle.tree.specs.Forest.{Head, Forest, Forest.none as leaf, node, node_head, forest_of, tree_of}
 use Rattle.tree.specs.Judge.{judged}
 use Rattle.tree.specs.code.Part.{Part}
 use Rattle.tree.specs.declared.Facts.{Facts}
@@ -141,11 +141,11 @@ stands_part {t} p = induct (λ i e. e ≤ 1024 → (above earlier : List Head) �
     (λ i e p lt inside after few above earlier.
     let s = sized p lt in
     let d = ended p lt in
-    let own : (head_at t i).number ≡ i = number_own t i (omega arith) in
+    let own : (node_head t i).number ≡ i = number_own t i (omega arith) in
     let a : e - i ≡ suc (i + size_at t i - (i + 1) + (e - (i + size_at t i))) = omega arith in
     let b : suc i + (i + size_at t i - (i + 1)) ≡ i + size_at t i = omega arith in
     let c : suc i ≡ i + 1 = omega arith in
-    rw (forest_node p lt, map-append, inside (omega arith) (head_at t i ∷ above) [], after few above (earlier ++ (head_at t i ∷ [])), a, own)
+    rw (forest_node p lt, map-append, inside (omega arith) (node_head t i ∷ above) [], after few above (earlier ++ (node_head t i ∷ [])), a, own)
     (ap (λ (l : List ℕ). i ∷ l)
     (ap₂ (λ (x y : ℕ). numbers (i + size_at t i - (i + 1)) x ++ numbers (e - (i + size_at t i)) y) (sym c) (sym b)
     ∙ numbers_append (i + size_at t i - (i + 1)) (e - (i + size_at t i)) (suc i))))

@@ -6,7 +6,7 @@ use mathlib.Core.List.{List}
 use lib.Dec.{eqb}
 use borrow.Author.Tests.{eq-eqb, ne_eqb}
 use Rattle.tree.specs.Bytes.{kind_at, begin_at, end_at, value_at}
-use Rattle.tree.specs.Forest.{spot_at}
+use Rattle.tree.specs.Forest.{node_spot}
 use Rattle.rules.specs.Order.{Sort}
 use Rattle.rules.specs.Names.{same, unused}
 use Rattle.rules.specs.code.Marks.{same_sort, same_setting}
@@ -26,16 +26,16 @@ unfolding sort_of
 code_assign k p q = rw (ne_eqb k 47 p, ne_eqb k 43 q)
 
 module _ (t : List ℕ) (a b : ℕ) where
-  pub value_differs : (value_at t a ≡ value_at t b → ⊥) → false ≡ same (spot_at t a) (spot_at t b)
-  unfolding spot_at
+  pub value_differs : (value_at t a ≡ value_at t b → ⊥) → false ≡ same (node_spot t a) (node_spot t b)
+  unfolding node_spot
   value_differs h = rw (ne_eqb (value_at t a) (value_at t b) h)
 
-  pub begin_differs : value_at t a ≡ value_at t b → (begin_at t a ≡ begin_at t b → ⊥) → false ≡ same (spot_at t a) (spot_at t b)
-  unfolding spot_at
+  pub begin_differs : value_at t a ≡ value_at t b → (begin_at t a ≡ begin_at t b → ⊥) → false ≡ same (node_spot t a) (node_spot t b)
+  unfolding node_spot
   begin_differs e h = rw (eq-eqb (value_at t a) (value_at t b) e, ne_eqb (begin_at t a) (begin_at t b) h)
 
-  pub end_decides : value_at t a ≡ value_at t b → begin_at t a ≡ begin_at t b → eqb (end_at t a) (end_at t b) ≡ same (spot_at t a) (spot_at t b)
-  unfolding spot_at
+  pub end_decides : value_at t a ≡ value_at t b → begin_at t a ≡ begin_at t b → eqb (end_at t a) (end_at t b) ≡ same (node_spot t a) (node_spot t b)
+  unfolding node_spot
   end_decides e h = rw (eq-eqb (value_at t a) (value_at t b) e, eq-eqb (begin_at t a) (begin_at t b) h)
 
 sort_code : (x y : Sort) → eqb (unused x) (unused y) ≡ same_sort x y
@@ -53,5 +53,5 @@ module _ (t : List ℕ) (a b : ℕ) where
   pub sort_differs : (unused (sort_of (kind_at t a)) ≡ unused (sort_of (kind_at t b)) → ⊥) → false ≡ same_setting (setting_at t a) (setting_at t b)
   sort_differs h = rw (← sort_code (sort_of (kind_at t a)) (sort_of (kind_at t b)), ne_eqb (unused (sort_of (kind_at t a))) (unused (sort_of (kind_at t b))) h)
 
-  pub sort_same : unused (sort_of (kind_at t a)) ≡ unused (sort_of (kind_at t b)) → same (spot_at t a) (spot_at t b) ≡ same_setting (setting_at t a) (setting_at t b)
+  pub sort_same : unused (sort_of (kind_at t a)) ≡ unused (sort_of (kind_at t b)) → same (node_spot t a) (node_spot t b) ≡ same_setting (setting_at t a) (setting_at t b)
   sort_same e = rw (← sort_code (sort_of (kind_at t a)) (sort_of (kind_at t b)), eq-eqb (unused (sort_of (kind_at t a))) (unused (sort_of (kind_at t b))) e)

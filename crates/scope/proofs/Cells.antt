@@ -10,7 +10,7 @@ use lib.ListN.{length, get_or, set, length-set}
 use lib.Seq.{get_or-set_same, get_or-set_other}
 use borrow.Author.Tests.{lt-ltb, le-ltb, ltb-true}
 use Rattle.tree.specs.Bytes.{pick}
-use Rattle.tree.specs.Forest.{Spot, spot_at}
+use Rattle.tree.specs.Forest.{Spot, node_spot}
 use Rattle.rules.specs.Names.{same, Warning, warned, warn}
 use Rattle.rules.specs.code.Marks.{inside, add}
 use Rattle.scope.specs.Lists.{places, seek_in, seek}
@@ -27,7 +27,7 @@ SameCells w v a b = (k : ℕ) → a ≤ k → k < b → get_or v k 0 ≡ get_or 
 
 pub same_spots : (t w v : List ℕ) (a b : ℕ) → SameCells w v a b → places (spot_in t v) a b ≡ places (spot_in t w) a b
 unfolding spot_in
-same_spots t w v a b h = agree (spot_in t v) (spot_in t w) a b (λ k p q. ap (spot_at t) (h k p q))
+same_spots t w v a b h = agree (spot_in t v) (spot_in t w) a b (λ k p q. ap (node_spot t) (h k p q))
 
 pub same_entry : (t w v : List ℕ) (es fs : List Entry) (k : ℕ) → get_or v k 0 ≡ get_or w k 0 → get_or v (1024 + k) 0 ≡ get_or w (1024 + k) 0
     → get_or fs k no_entry ≡ get_or es k no_entry → entry_in t v fs k ≡ entry_in t w es k
@@ -50,17 +50,17 @@ other_cell w i v k h = get_or-set_other w i k v 0 h
 
 module _ (t w : List ℕ) (a b end i : ℕ) where
   -- the list has the pair
-  is_inside : a ≤ b → inside same (spot_at t i) (places (spot_in t w) a b) ≡ is_in t w TheSpot a b i
+  is_inside : a ≤ b → inside same (node_spot t i) (places (spot_in t w) a b) ≡ is_in t w TheSpot a b i
   unfolding find_in alike_at spot_in
-  is_inside h = inside_any (spot_at t i) (places (spot_in t w) a b) ∙ any_places (same (spot_at t i)) (spot_in t w) a b h
+  is_inside h = inside_any (node_spot t i) (places (spot_in t w) a b) ∙ any_places (same (node_spot t i)) (spot_in t w) a b h
 
-  pub joined_list : a ≤ b → b < length w → (inside same (spot_at t i) (places (spot_in t w) a b) ≡ false → b < end)
-      → places (spot_in t (join_words t w a b end i)) a (join_end t w a b end i) ≡ add same (spot_at t i) (places (spot_in t w) a b)
+  pub joined_list : a ≤ b → b < length w → (inside same (node_spot t i) (places (spot_in t w) a b) ≡ false → b < end)
+      → places (spot_in t (join_words t w a b end i)) a (join_end t w a b end i) ≡ add same (node_spot t i) (places (spot_in t w) a b)
   unfolding join_words join_end spot_in
   joined_list h l room = go (is_in t w TheSpot a b i) refl
     where
       go : (x : Bool) → is_in t w TheSpot a b i ≡ x
-          → places (spot_in t (join_words t w a b end i)) a (join_end t w a b end i) ≡ add same (spot_at t i) (places (spot_in t w) a b)
+          → places (spot_in t (join_words t w a b end i)) a (join_end t w a b end i) ≡ add same (node_spot t i) (places (spot_in t w) a b)
       go true e = rw (is_inside h, e)
       go false e =
           let r : b < end = room (is_inside h ∙ e) in
@@ -68,8 +68,8 @@ module _ (t w : List ℕ) (a b end i : ℕ) where
           (places_last (spot_in t (set w b i)) a b h
           ∙ ap2 (same_spots t w (set w b i) a b (λ k p q. other_cell w b i k (omega arith))) last)
         where
-          last : spot_in t (set w b i) b ≡ spot_at t i
-          last = ap (spot_at t) (get_or-set_same w b i 0 l)
+          last : spot_in t (set w b i) b ≡ node_spot t i
+          last = ap (node_spot t) (get_or-set_same w b i 0 l)
 
           ap2 : {l m : List Spot} {x y : Spot} → l ≡ m → x ≡ y → l ++ (x ∷ []) ≡ m ++ (y ∷ [])
           ap2 p q = rw (p, q)
@@ -102,9 +102,9 @@ module _ (t w : List ℕ) (a b end i : ℕ) where
       go false true = omega arith
       go false false = omega arith
 
-  pub join_end : b ≤ end → (b ≤ join_end t w a b end i) × (join_end t w a b end i ≤ end)
+  pub join_end_is : b ≤ end → (b ≤ join_end t w a b end i) × (join_end t w a b end i ≤ end)
   unfolding join_end
-  join_end h = go (is_in t w TheSpot a b i) refl (ltb b end) refl
+  join_end_is h = go (is_in t w TheSpot a b i) refl (ltb b end) refl
     where
       go : (x : Bool) → is_in t w TheSpot a b i ≡ x → (y : Bool) → ltb b end ≡ y → (b ≤ join_end t w a b end i) × (join_end t w a b end i ≤ end)
       go true e y f = (rw e (omega arith), rw e (omega arith))
@@ -128,18 +128,18 @@ seek_shift c q (suc n) a = go (q (c + a)) refl (seek_shift c q n (a + 1))
     go false e h = let z : c + a + 1 ≡ c + (a + 1) = omega arith in rw (seek_in, e, z) h
 
 module _ (t w : List ℕ) (n code i : ℕ) where
-  is_warned : warned (spot_at t i) (out_of t w n) ≡ is_in t w TheSpot 3072 (3072 + n) i
+  is_warned : warned (node_spot t i) (out_of t w n) ≡ is_in t w TheSpot 3072 (3072 + n) i
   unfolding find_in alike_at out_of warning_in seek
-  is_warned = warned_any (spot_at t i) (out_of t w n) ∙ any_places (λ v. same (spot_at t i) v.spot) (warning_in t w) 0 n (omega arith) ∙ shifted
+  is_warned = warned_any (node_spot t i) (out_of t w n) ∙ any_places (λ v. same (node_spot t i) v.spot) (warning_in t w) 0 n (omega arith) ∙ shifted
     where
-      shifted : ltb (seek (λ k. same (spot_at t i) (warning_in t w k).spot) 0 n) n ≡ ltb (seek (λ k. alike_at t TheSpot i (node_in w k)) 3072 (3072 + n)) (3072 + n)
+      shifted : ltb (seek (λ k. same (node_spot t i) (warning_in t w k).spot) 0 n) n ≡ ltb (seek (λ k. alike_at t TheSpot i (node_in w k)) 3072 (3072 + n)) (3072 + n)
       shifted =
           let z : 3072 + n - 3072 ≡ n - 0 = omega arith in
-          ltb_shift 3072 (seek (λ k. same (spot_at t i) (warning_in t w k).spot) 0 n) n
+          ltb_shift 3072 (seek (λ k. same (node_spot t i) (warning_in t w k).spot) 0 n) n
           ∙ rw z (ap (λ (m : ℕ). ltb m (3072 + n)) (seek_shift 3072 (λ k. alike_at t TheSpot i (node_in w k)) (n - 0) 0))
 
-  pub warned_list : 8192 ≤ length w → (warned (spot_at t i) (out_of t w n) ≡ false → n < 1024)
-      → out_of t (warn_words t w n code i) (warn_count t w n i) ≡ warn code (spot_at t i) (out_of t w n)
+  pub warned_list : 8192 ≤ length w → (warned (node_spot t i) (out_of t w n) ≡ false → n < 1024)
+      → out_of t (warn_words t w n code i) (warn_count t w n i) ≡ warn code (node_spot t i) (out_of t w n)
   unfolding warn_words warn_count out_of warning_in
   warned_list l room = go (is_in t w TheSpot 3072 (3072 + n) i) refl
     where
@@ -151,7 +151,7 @@ module _ (t w : List ℕ) (n code i : ℕ) where
           (λ k p q. other_cell (set w (3072 + n) i) (4096 + n) code k (omega arith) ∙ other_cell w (3072 + n) i k (omega arith))
           (λ k p q. other_cell (set w (3072 + n) i) (4096 + n) code k (omega arith) ∙ other_cell w (3072 + n) i k (omega arith))
 
-      last : n < 1024 → warning_in t v n ≡ record { code = code; spot = spot_at t i }
+      last : n < 1024 → warning_in t v n ≡ record { code = code; spot = node_spot t i }
       last r =
           let a : get_or v (4096 + n) 0 ≡ code = get_or-set_same (set w (3072 + n) i) (4096 + n) code 0 (omega (arith, length-set w (3072 + n) i)) in
           let b : get_or v (3072 + n) 0 ≡ i = other_cell (set w (3072 + n) i) (4096 + n) code (3072 + n) (omega arith) ∙ get_or-set_same w (3072 + n) i 0 (omega arith) in
@@ -161,6 +161,6 @@ module _ (t w : List ℕ) (n code i : ℕ) where
       ap2 p q = rw (p, q)
 
       go : (x : Bool) → is_in t w TheSpot 3072 (3072 + n) i ≡ x
-          → out_of t (warn_words t w n code i) (warn_count t w n i) ≡ warn code (spot_at t i) (out_of t w n)
+          → out_of t (warn_words t w n code i) (warn_count t w n i) ≡ warn code (node_spot t i) (out_of t w n)
       go true e = rw (is_warned, e)
       go false e = let r : n < 1024 = room (is_warned ∙ e) in rw (is_warned, e, lt-ltb n 1024 r) (places_last (warning_in t v) 0 n (omega arith) ∙ ap2 (kept r) (last r))

@@ -7,7 +7,7 @@ use mathlib.Core.List.{List, ◌∷◌}
 use lib.Dec.{eqb}
 use lib.ListN.{length, get_or}
 use Rattle.tree.specs.Bytes.{pick, value_at, global_count}
-use Rattle.tree.specs.Forest.{Spot, spot_at}
+use Rattle.tree.specs.Forest.{Spot, node_spot}
 use Rattle.tree.specs.Table.{table_of, underscored, is_global, unless, globals_of}
 use Rattle.rules.specs.Record.{keep}
 use Rattle.rules.specs.Names.{Warning, warn, warn_if, warn_all}
@@ -32,25 +32,25 @@ module _ (t w : List ℕ) (s : Scope) (f : Fits w s) where
   abbrev ungiven : Spot → Bool
   ungiven x = not (is_global t x.value)
 
-  spot_same : (v : List ℕ) (k : ℕ) → get_or v k 0 ≡ get_or w k 0 → spot_in t w k ≡ spot_at t (node_in v k)
+  spot_same : (v : List ℕ) (k : ℕ) → get_or v k 0 ≡ get_or w k 0 → spot_in t w k ≡ node_spot t (node_in v k)
   unfolding spot_in
   spot_same v k e = rw e
 
-  value_spot : (i : ℕ) → (spot_at t i).value ≡ value_at t i
-  unfolding spot_at
+  value_spot : (i : ℕ) → (node_spot t i).value ≡ value_at t i
+  unfolding node_spot
   value_spot i = refl
 
   -- the list after one more unbound use, set here or not, given or not
   abbrev told : Spot → List Warning → Bool → Bool → List Warning
   told x ws a b = pick a ws (pick b ws (warn 5 x ws))
 
-  unknown_lines : (v : List ℕ) (n i : ℕ) → Only w v → n ≤ 1024 → (ws : List Warning) → (length ws ≤ 1024 → out_of t v n ≡ ws)
+  unknown_lines_are : (v : List ℕ) (n i : ℕ) → Only w v → n ≤ 1024 → (ws : List Warning) → (length ws ≤ 1024 → out_of t v n ≡ ws)
       → (a b : Bool) → is_in t v Name s.first s.settings i ≡ a → is_global t (value_at t i) ≡ b
-      → Warns t w (unknown_lines t s.first s.settings v n i) (told (spot_at t i) ws a b)
+      → Warns t w (unknown_lines t s.first s.settings v n i) (told (node_spot t i) ws a b)
   unfolding unknown_lines warn_lines
-  unknown_lines v n i o h ws e true b p q = rw p (warns_not t w v n o f.words h ws e)
-  unknown_lines v n i o h ws e false true p q = rw (p, q) (warns_not t w v n o f.words h ws e)
-  unknown_lines v n i o h ws e false false p q = rw (p, q) (warns_so t w v n o f.words h ws e 5 i)
+  unknown_lines_are v n i o h ws e true b p q = rw p (warns_not t w v n o f.words h ws e)
+  unknown_lines_are v n i o h ws e false true p q = rw (p, q) (warns_not t w v n o f.words h ws e)
+  unknown_lines_are v n i o h ws e false false p q = rw (p, q) (warns_so t w v n o f.words h ws e 5 i)
 
   all_by : (x : Spot) (ss : List Spot) (ws : List Warning) (a b : Bool) → sets_name x.value here ≡ a → is_global t x.value ≡ b
       → warn_all 5 ungiven (keep unset (x ∷ ss)) ws ≡ warn_all 5 ungiven (keep unset ss) (told x ws a b)
@@ -69,15 +69,15 @@ module _ (t w : List ℕ) (s : Scope) (f : Fits w s) where
       let x = is_in t v Name s.first s.settings i in
       let y = is_global t (value_at t i) in
       let rest = places (spot_in t w) (k + 1) s.looses in
-      let z : spot_in t w k ≡ spot_at t i = spot_same v k (o.above k (omega (arith, f.loose_from))) in
-      let c : places (spot_in t w) k s.looses ≡ spot_at t i ∷ rest = places_cons (spot_in t w) k s.looses (omega arith) ∙ ap (λ (q : Spot). q ∷ rest) z in
-      let p : sets_name (spot_at t i).value here ≡ x =
+      let z : spot_in t w k ≡ node_spot t i = spot_same v k (o.above k (omega (arith, f.loose_from))) in
+      let c : places (spot_in t w) k s.looses ≡ node_spot t i ∷ rest = places_cons (spot_in t w) k s.looses (omega arith) ∙ ap (λ (q : Spot). q ∷ rest) z in
+      let p : sets_name (node_spot t i).value here ≡ x =
       ap (λ (q : ℕ). sets_name q here) (value_spot i) ∙ ap (sets_name (value_at t i)) (sym (only_entries t w v s f o)) ∙ sets_in t v s.entries s.first s.settings i f.first in
-      let g = ap (λ (q : List Spot). warn_all 5 ungiven (keep unset q) ws) c ∙ all_by (spot_at t i) rest ws x y p (ap (is_global t) (value_spot i)) in
-      let d = unknown_lines v n i o h ws e x y refl refl in
+      let g = ap (λ (q : List Spot). warn_all 5 ungiven (keep unset q) ws) c ∙ all_by (node_spot t i) rest ws x y p (ap (is_global t) (value_spot i)) in
+      let d = unknown_lines_are v n i o h ws e x y refl refl in
       let l = unknown_lines t s.first s.settings v n i in
       subst (λ (q : List Warning). Warns t w (uses_lines false t s.first s.settings v n k (suc m)) q) (sym g)
-      (unknowns m (k + 1) l.words l.count (omega arith) (omega arith) d.only d.small (told (spot_at t i) ws x y) d.list)
+      (unknowns m (k + 1) l.words l.count (omega arith) (omega arith) d.only d.small (told (node_spot t i) ws x y) d.list)
 
   -- what stands in the words once the module is left: the list of names-tour, where it fits
   pub closed_warns : Warns t w (closed_of t w s) (undefined_room (globals_of t) (room_of t w s) (farewell_room (underscored (table_of t)) true (room_of t w s) (out_of t w s.warnings)))

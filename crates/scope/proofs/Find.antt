@@ -3,7 +3,7 @@ use Prim.Native.Nat.{ℕ, ◌+◌, ◌≤◌, ◌<◌}
 use mathlib.Core.Path.{◌≡◌}
 use mathlib.Core.Bool.{true, false}
 use mathlib.Core.List.{List}
-use Rattle.tree.specs.Forest.{spot_at}
+use Rattle.tree.specs.Forest.{node_spot}
 use Rattle.rules.proofs.Bools.{so}
 use Rattle.rules.proofs.Spots.{same_exact}
 use Rattle.scope.specs.State.{node_in}
@@ -28,4 +28,4 @@ module _ (t w : List ℕ) (how : Like) (i : ℕ) where
 -- a node is found no later than it stands
 pub find_self : (t w : List ℕ) (j a b : ℕ) → a ≤ j → j < b → find_in t w Spot a b (node_in w j) ≤ j
 unfolding find_in alike_at
-find_self t w j a b h k = seek_below (λ m. alike_at t Spot (node_in w j) (node_in w m)) a b j h k (so _ (same_exact (spot_at t (node_in w j))))
+find_self t w j a b h k = seek_below (λ m. alike_at t Spot (node_in w j) (node_in w m)) a b j h k (so _ (same_exact (node_spot t (node_in w j))))

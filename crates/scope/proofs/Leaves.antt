@@ -8,7 +8,7 @@ use lib.Dec.{eqb}
 use lib.ListN.{length, get_or, length-append}
 use borrow.Author.Tests.{lt-ltb}
 use Rattle.tree.specs.Bytes.{kind_at, value_at}
-use Rattle.tree.specs.Forest.{Spot, spot_at}
+use Rattle.tree.specs.Forest.{Spot, node_spot}
 use Rattle.tree.specs.Table.{table_of, underscored}
 use Rattle.rules.specs.Order.{Sort}
 use Rattle.rules.specs.Names.{same, has_name as named, Warning, warned, warn, warn_new, warn_if, warn_all, unused, is_assign}
@@ -24,7 +24,7 @@ use Rattle.scope.proofs.Lists.{places_cons, places_none}
 use Rattle.scope.proofs.Find.{find_self}
 use Rattle.scope.proofs.Seeks.{any_places, sets_any, named_any, find_places}
 use Rattle.scope.proofs.Cells.{same_spots, same_entry, same_entries, warned_list}
-use Rattle.scope.proofs.Notes.{warn_else, warn_length, warn_count, warn_room, out_length}
+use Rattle.scope.proofs.Notes.{warn_else, warn_length, warn_count_is, warn_room, out_length}
 use Rattle.scope.proofs.Steps.{idle_here}
 use Rattle.rules.specs.Outcome.{work_words}
 
@@ -72,15 +72,15 @@ all_grows code p (s ∷ ss) ws = let a = if_grows (p s) code s ws in let b = all
 
 -- one warning more, if so
 module _ (t w v : List ℕ) (n : ℕ) (o : Only w v) (l : work_words ≤ length w) (h : n ≤ 1024) (ws : List Warning) (e : length ws ≤ 1024 → out_of t v n ≡ ws) where
-  pub warns_so : (code i : ℕ) → Warns t w (record { words = warn_words t v n code i; count = warn_count t v n i }) (warn code (spot_at t i) ws)
+  pub warns_so : (code i : ℕ) → Warns t w (record { words = warn_words t v n code i; count = warn_count t v n i }) (warn code (node_spot t i) ws)
   warns_so code i =
       record {
         only = only_then w v (warn_words t v n code i) o (warn_only t v n code i);
-        small = warn_count t v n code i h;
+        small = warn_count_is t v n code i h;
         list = λ k.
-            let g = warn_grows code (spot_at t i) ws in
+            let g = warn_grows code (node_spot t i) ws in
             let q = e (omega arith) in
-            warned_list t v n code i (omega (arith, o.long)) (λ z. omega (arith, warn_room code (spot_at t i) (out_of t v n) z (rw q k), out_length t v n)) ∙ ap (warn code (spot_at t i)) q;
+            warned_list t v n code i (omega (arith, o.long)) (λ z. omega (arith, warn_room code (node_spot t i) (out_of t v n) z (rw q k), out_length t v n)) ∙ ap (warn code (node_spot t i)) q;
       }
 
   pub warns_not : Warns t w (record { words = v; count = n }) ws
@@ -99,7 +99,7 @@ module _ (t w v : List ℕ) (s : Scope) (f : Fits w s) (o : Only w v) where
   only_room = rw (only_entries, only_looses, same_spots t w v s.cant s.cants (λ k p q. o.above k (omega (arith, f.cant_from))))
 
 pub sets_in : (t w : List ℕ) (es : List Entry) (a b i : ℕ) → a ≤ b → sets_name (value_at t i) (places (entry_in t w es) a b) ≡ is_in t w Name a b i
-unfolding find_in alike_at entry_in spot_at
+unfolding find_in alike_at entry_in node_spot
 sets_in t w es a b i h = sets_any (value_at t i) (places (entry_in t w es) a b) ∙ any_places (λ e. eqb (value_at t i) e.spot.value) (entry_in t w es) a b h
 
 -- can't-set uses whose name is set here
@@ -108,7 +108,7 @@ module _ (t w : List ℕ) (s : Scope) (f : Fits w s) where
   es = places (entry_in t w s.entries) s.first s.settings
 
   late_step : (v : List ℕ) (n i : ℕ) → Only w v → n ≤ 1024 → (ws : List Warning) → (length ws ≤ 1024 → out_of t v n ≡ ws)
-      → Warns t w (late_lines t s.first s.settings v n i) (warn_if (sets_name (value_at t i) es) 4 (spot_at t i) ws)
+      → Warns t w (late_lines t s.first s.settings v n i) (warn_if (sets_name (value_at t i) es) 4 (node_spot t i) ws)
   unfolding late_lines warn_lines
   late_step v n i o h ws e =
       go (is_in t v Name s.first s.settings i) refl
@@ -116,13 +116,13 @@ module _ (t w : List ℕ) (s : Scope) (f : Fits w s) where
       same_sets : sets_name (value_at t i) es ≡ is_in t v Name s.first s.settings i
       same_sets = ap (sets_name (value_at t i)) (sym (only_entries t w v s f o)) ∙ sets_in t v s.entries s.first s.settings i f.first
 
-      go : (x : Bool) → is_in t v Name s.first s.settings i ≡ x → Warns t w (late_lines t s.first s.settings v n i) (warn_if (sets_name (value_at t i) es) 4 (spot_at t i) ws)
+      go : (x : Bool) → is_in t v Name s.first s.settings i ≡ x → Warns t w (late_lines t s.first s.settings v n i) (warn_if (sets_name (value_at t i) es) 4 (node_spot t i) ws)
       go true q = rw (same_sets, q) (warns_so t w v n o f.words h ws e 4 i)
       go false q = rw (same_sets, q) (warns_not t w v n o f.words h ws e)
 
   lates : (m k : ℕ) (v : List ℕ) (n : ℕ) → s.cant ≤ k → k + m ≡ s.cants → Only w v → n ≤ 1024 → (ws : List Warning) → (length ws ≤ 1024 → out_of t v n ≡ ws)
       → Warns t w (uses_lines true t s.first s.settings v n k m) (warn_all 4 (λ x. sets_name x.value es) (places (spot_in t w) k s.cants) ws)
-  unfolding uses_lines spot_in spot_at
+  unfolding uses_lines spot_in node_spot
   lates zero k v n a b o h ws e =
       rw (places_none (spot_in t w) k s.cants (omega arith)) (warns_not t w v n o f.words h ws e)
   lates (suc m) k v n a b o h ws e =
@@ -131,7 +131,7 @@ module _ (t w : List ℕ) (s : Scope) (f : Fits w s) where
       let d = late_step v n i o h ws e in
       let l = late_lines t s.first s.settings v n i in
       rw (places_cons (spot_in t w) k s.cants (omega arith))
-      (rw (← z) (lates m (k + 1) l.words l.count (omega arith) (omega arith) d.only d.small (warn_if (sets_name (value_at t i) es) 4 (spot_at t i) ws) d.list))
+      (rw (← z) (lates m (k + 1) l.words l.count (omega arith) (omega arith) d.only d.small (warn_if (sets_name (value_at t i) es) 4 (node_spot t i) ws) d.list))
 
   late_warns : (ws : List Warning) → out_of t w s.warnings ≡ ws
       → Warns t w (late_of t w s) (warn_all 4 (λ x. sets_name x.value es) (places (spot_in t w) s.cant s.cants) ws)
@@ -145,7 +145,7 @@ assign_code Sort.assign = refl
 assign_code Sort.argument = refl
 
 named_in : (t w : List ℕ) (a b i : ℕ) → a ≤ b → named (value_at t i) (places (spot_in t w) a b) ≡ is_in t w Name a b i
-unfolding find_in alike_at spot_in spot_at
+unfolding find_in alike_at spot_in node_spot
 named_in t w a b i h = named_any (value_at t i) (places (spot_in t w) a b) ∙ any_places (λ x. eqb (value_at t i) x.value) (spot_in t w) a b h
 
 -- the first entry with the pair of the setting at place j has its marks
@@ -153,42 +153,42 @@ module _ (t w : List ℕ) (xs : List Entry) (a b j : ℕ) (h : a ≤ j) (l : j <
   abbrev spot_place : ℕ
   spot_place = find_in t w TheSpot a b (node_in w j)
 
-  used_first : used_at (spot_at t (node_in w j)) (places (entry_in t w xs) a b) ≡ eqb (used_in w spot_place) 1
+  used_first : used_at (node_spot t (node_in w j)) (places (entry_in t w xs) a b) ≡ eqb (used_in w spot_place) 1
   unfolding find_in alike_at entry_in
   used_first =
-      find_places (same (spot_at t (node_in w j))) (λ e. e.used) false (entry_in t w xs) a b (omega arith)
+      find_places (same (node_spot t (node_in w j))) (λ e. e.used) false (entry_in t w xs) a b (omega arith)
       ∙ rw (lt-ltb (find_in t w TheSpot a b (node_in w j)) b (omega (arith, find_self t w j a b h l)))
 
-  held_first : held_at (spot_at t (node_in w j)) (places (entry_in t w xs) a b) ≡ held_of (get_or xs spot_place no_entry).standing
+  held_first : held_at (node_spot t (node_in w j)) (places (entry_in t w xs) a b) ≡ held_of (get_or xs spot_place no_entry).standing
   unfolding find_in alike_at entry_in
   held_first =
-      find_places (same (spot_at t (node_in w j))) (λ e. e.held) false (entry_in t w xs) a b (omega arith)
+      find_places (same (node_spot t (node_in w j))) (λ e. e.held) false (entry_in t w xs) a b (omega arith)
       ∙ rw (lt-ltb (find_in t w TheSpot a b (node_in w j)) b (omega (arith, find_self t w j a b h l)))
 
 module _ (t v : List ℕ) (s : Scope) (top : Bool) (j : ℕ) (h : s.first ≤ j) (l : j < s.settings) (z : s.loose ≤ s.looses) where
   abbrev p : ℕ
   p = find_in t v TheSpot s.first s.settings (node_in v j)
 
-  named_here : named (spot_at t (node_in v j)).value (places (spot_in t v) s.loose s.looses) ≡ is_in t v Name s.loose s.looses (node_in v j)
-  unfolding spot_at
+  named_here : named (node_spot t (node_in v j)).value (places (spot_in t v) s.loose s.looses) ≡ is_in t v Name s.loose s.looses (node_in v j)
+  unfolding node_spot
   named_here = named_in t v s.loose s.looses (node_in v j) z
 
   level_here : (top : Bool) → spared_level (underscored (table_of t)) top (room_of t v s) (entry_in t v s.entries j) ≡ spared_at t top (held_of (get_or s.entries p no_entry).standing) (node_in v j)
-  unfolding room_of entry_in spared_at spot_at
+  unfolding room_of entry_in spared_at node_spot
   level_here true =
       rw (assign_code (sort_of (kind_at t (node_in v j)))) (ap (λ (x : Bool). is_assign (sort_of (kind_at t (node_in v j))) && (not (underscored (table_of t) (value_at t (node_in v j))) && x))
       (held_first t v s.entries s.first s.settings j h l))
   level_here false = refl
 
-  used_here : used_at (spot_at t (node_in v j)) (room_of t v s).entries ≡ eqb (used_in v p) 1
+  used_here : used_at (node_spot t (node_in v j)) (room_of t v s).entries ≡ eqb (used_in v p) 1
   unfolding room_of
   used_here = used_first t v s.entries s.first s.settings j h l
 
-  named_room : named (spot_at t (node_in v j)).value (room_of t v s).unbound ≡ is_in t v Name s.loose s.looses (node_in v j)
+  named_room : named (node_spot t (node_in v j)).value (room_of t v s).unbound ≡ is_in t v Name s.loose s.looses (node_in v j)
   unfolding room_of
   named_room = named_here
 
-  entry_spot : (entry_in t v s.entries j).spot ≡ spot_at t (node_in v j)
+  entry_spot : (entry_in t v s.entries j).spot ≡ node_spot t (node_in v j)
   unfolding entry_in
   entry_spot = refl
 

@@ -8,7 +8,7 @@ use lib.Dec.{ltb}
 use lib.ListN.{length, get_or, set, length-set, length-append}
 use borrow.Author.Tests.{ltb-true}
 use Rattle.tree.specs.Bytes.{pick}
-use Rattle.tree.specs.Forest.{Spot, spot_at}
+use Rattle.tree.specs.Forest.{Spot, node_spot}
 use Rattle.rules.specs.Names.{same, Warning, warned, warn, warn_new}
 use Rattle.rules.specs.code.Marks as marks
 use Rattle.rules.specs.code.Marks.{House, put, inside, cannot_room, unbinds_room, total, cant_in, unbound_in}
@@ -19,7 +19,7 @@ use Rattle.scope.specs.Words.{is_in, with_warnings, warn_words, warn_count, join
 use Rattle.scope.specs.declared.table.Like.TheVariants.{Spot as TheSpot}
 use Rattle.scope.specs.declared.Scope.{Scope}
 use Rattle.scope.proofs.Lists.{places_length}
-use Rattle.scope.proofs.Cells.{other_cell, same_spots, same_entries, same_warnings, warned_list, joined_list, join_else, join_length, join_end}
+use Rattle.scope.proofs.Cells.{other_cell, same_spots, same_entries, same_warnings, warned_list, joined_list, join_else, join_length, join_end_is}
 use Rattle.scope.proofs.Frames.{inside_on, rooms_same, sum_cants, sum_looses}
 use Rattle.scope.proofs.Sets.{kept_on}
 
@@ -54,9 +54,9 @@ module _ (t w : List ℕ) (n code i : ℕ) where
       go false true = length-set (set w (3072 + n) i) (4096 + n) code ∙ length-set w (3072 + n) i
       go false false = refl
 
-  pub warn_count : n ≤ 1024 → warn_count t w n i ≤ 1024
+  pub warn_count_is : n ≤ 1024 → warn_count t w n i ≤ 1024
   unfolding warn_count
-  warn_count h = go (is_in t w TheSpot 3072 (3072 + n) i) (ltb n 1024) refl
+  warn_count_is h = go (is_in t w TheSpot 3072 (3072 + n) i) (ltb n 1024) refl
     where
       go : (x y : Bool) → ltb n 1024 ≡ y → pick x n (pick y (n + 1) n) ≤ 1024
       go true y e = h
@@ -92,7 +92,7 @@ module _ (t w : List ℕ) (s : Scope) (code i : ℕ) (f : Fits w s) where
         loose_from = f.loose_from;
         loose = f.loose;
         looses = f.looses;
-        warnings = warn_count t w s.warnings code i f.warnings;
+        warnings = warn_count_is t w s.warnings code i f.warnings;
         clean = f.clean;
         own = λ k p q. else (2048 + k) (λ z y. omega (arith, f.settings)) (λ z y. omega (arith, f.settings)) ∙ f.own k p q;
       }
@@ -135,7 +135,7 @@ module _ (t w : List ℕ) (s : Scope) (code i : ℕ) (f : Fits w s) where
             (λ k a b. else k (λ z y. omega (arith, f.settings)) (λ z y. omega (arith, f.settings))) (λ k a b. refl),
       )
 
-  pub warn_does : Does t (λ m. length (warn code (spot_at t i) m.out) ≤ 1024) (warn_house code (spot_at t i)) w s
+  pub warn_does : Does t (λ m. length (warn code (node_spot t i) m.out) ≤ 1024) (warn_house code (node_spot t i)) w s
       (warn_words t w s.warnings code i) (with_warnings (warn_count t w s.warnings i) s)
   unfolding house_of
   warn_does =
@@ -143,23 +143,23 @@ module _ (t w : List ℕ) (s : Scope) (code i : ℕ) (f : Fits w s) where
         fits = warn_fits;
         kept = warn_kept;
         house = λ outer p q.
-            let room : warned (spot_at t i) (out_of t w s.warnings) ≡ false → s.warnings < 1024 = λ e. omega (arith, warn_room code (spot_at t i) (out_of t w s.warnings) e q, out_length t w s.warnings) in
+            let room : warned (node_spot t i) (out_of t w s.warnings) ≡ false → s.warnings < 1024 = λ e. omega (arith, warn_room code (node_spot t i) (out_of t w s.warnings) e q, out_length t w s.warnings) in
             rw (warn_here, warn_rooms outer p, warned_list t w s.warnings code i (omega (arith, f.words)) room);
       }
 
 -- a list of uses that grows: the words that it does not reach stay
 module _ (t w : List ℕ) (s : Scope) (i : ℕ) (f : Fits w s) where
   abbrev pub cannot_house : House → House
-  cannot_house m = record { here = cannot_room (spot_at t i) m.here; above = m.above; out = m.out }
+  cannot_house m = record { here = cannot_room (node_spot t i) m.here; above = m.above; out = m.out }
 
   abbrev pub unbinds_house : House → House
-  unbinds_house m = record { here = unbinds_room (spot_at t i ∷ []) m.here; above = m.above; out = m.out }
+  unbinds_house m = record { here = unbinds_room (node_spot t i ∷ []) m.here; above = m.above; out = m.out }
 
   cannot_fits : Fits (cannot_words t w s i) (cannot_scope t w s i)
   unfolding cannot_words cannot_scope
   cannot_fits =
       let else = join_else t w s.cant s.cants 6144 i in
-      let e = join_end t w s.cant s.cants 6144 i f.cants in
+      let e = join_end_is t w s.cant s.cants 6144 i f.cants in
       record {
         words = omega (arith, f.words, join_length t w s.cant s.cants 6144 i);
         wide = f.wide;
@@ -180,7 +180,7 @@ module _ (t w : List ℕ) (s : Scope) (i : ℕ) (f : Fits w s) where
   unfolding cannot_words cannot_scope
   cannot_kept =
       let else = join_else t w s.cant s.cants 6144 i in
-      let e = join_end t w s.cant s.cants 6144 i f.cants in
+      let e = join_end_is t w s.cant s.cants 6144 i f.cants in
       record {
         first = refl;
         cant = refl;
@@ -196,7 +196,7 @@ module _ (t w : List ℕ) (s : Scope) (i : ℕ) (f : Fits w s) where
   unfolding unbinds_words unbinds_scope
   unbinds_fits =
       let else = join_else t w s.loose s.looses 13312 i in
-      let e = join_end t w s.loose s.looses 13312 i f.looses in
+      let e = join_end_is t w s.loose s.looses 13312 i f.looses in
       record {
         words = omega (arith, f.words, join_length t w s.loose s.looses 13312 i);
         wide = f.wide;
@@ -217,7 +217,7 @@ module _ (t w : List ℕ) (s : Scope) (i : ℕ) (f : Fits w s) where
   unfolding unbinds_words unbinds_scope
   unbinds_kept =
       let else = join_else t w s.loose s.looses 13312 i in
-      let e = join_end t w s.loose s.looses 13312 i f.looses in
+      let e = join_end_is t w s.loose s.looses 13312 i f.looses in
       record {
         first = refl;
         cant = refl;
@@ -230,9 +230,9 @@ module _ (t w : List ℕ) (s : Scope) (i : ℕ) (f : Fits w s) where
       }
 
   -- one more, where it is not there yet
-  put_room : (b : Bool) (l : List Spot) (m : ℕ) → b ≡ false → length (put b (spot_at t i) l) ≤ m → length l < m
+  put_room : (b : Bool) (l : List Spot) (m : ℕ) → b ≡ false → length (put b (node_spot t i) l) ≤ m → length l < m
   put_room true l m e h = let z : ◌≡◌ {A = ℕ} 0 1 = cc in absurd (omega arith)
-  put_room false l m e h = omega (arith, length-append l (spot_at t i ∷ []))
+  put_room false l m e h = omega (arith, length-append l (node_spot t i ∷ []))
 
   pub cannot_does : Does t (λ m. total cant_in (cannot_house m) ≤ 1024) cannot_house w s (cannot_words t w s i) (cannot_scope t w s i)
   unfolding house_of room_of cannot_words cannot_scope
@@ -244,10 +244,10 @@ module _ (t w : List ℕ) (s : Scope) (i : ℕ) (f : Fits w s) where
         kept = cannot_kept;
         house = λ outer p q.
             let l = places (spot_in t w) s.cant s.cants in
-            let room : inside same (spot_at t i) l ≡ false → s.cants < 6144 = λ e.
+            let room : inside same (node_spot t i) l ≡ false → s.cants < 6144 = λ e.
             let c = sum_cants t w outer s p in
             let n = places_length (spot_in t w) s.cant s.cants in
-            omega (arith, put_room (inside same (spot_at t i) l) l (1024 - marks.sum cant_in (rooms_of t w outer)) e (omega (arith, q)), f.cant) in
+            omega (arith, put_room (inside same (node_spot t i) l) l (1024 - marks.sum cant_in (rooms_of t w outer)) e (omega (arith, q)), f.cant) in
             rw (
               joined_list t w s.cant s.cants 6144 i f.cant (omega (arith, f.cants, f.words)) room,
               rooms_same t w v outer s p (record {
@@ -273,10 +273,10 @@ module _ (t w : List ℕ) (s : Scope) (i : ℕ) (f : Fits w s) where
         kept = unbinds_kept;
         house = λ outer p q.
             let l = places (spot_in t w) s.loose s.looses in
-            let room : inside same (spot_at t i) l ≡ false → s.looses < 13312 = λ e.
+            let room : inside same (node_spot t i) l ≡ false → s.looses < 13312 = λ e.
             let c = sum_looses t w outer s p in
             let n = places_length (spot_in t w) s.loose s.looses in
-            omega (arith, put_room (inside same (spot_at t i) l) l (7168 - marks.sum unbound_in (rooms_of t w outer)) e (omega (arith, q)), f.loose) in
+            omega (arith, put_room (inside same (node_spot t i) l) l (7168 - marks.sum unbound_in (rooms_of t w outer)) e (omega (arith, q)), f.loose) in
             rw (
               joined_list t w s.loose s.looses 13312 i f.loose (omega (arith, f.looses, f.words)) room,
               rooms_same t w v outer s p (record {

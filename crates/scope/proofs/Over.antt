@@ -89,14 +89,14 @@ module _ (a b : Bool) (os : List Entry) (n j : ℕ) (es : List Entry) where
 
 -- lists of Marks
 module _ (s : Spot) (f : ℕ → marks.Entry) where
-  resets_in : (n a : ℕ) → resets s (places_in f a n) ≡ places_in (λ k. reset s (f k)) a n
+  resets_are : (n a : ℕ) → resets s (places_in f a n) ≡ places_in (λ k. reset s (f k)) a n
   unfolding places_in
-  resets_in zero a = refl
-  resets_in (suc n) a = ap (λ (l : List marks.Entry). reset s (f a) ∷ l) (resets_in n (a + 1))
+  resets_are zero a = refl
+  resets_are (suc n) a = ap (λ (l : List marks.Entry). reset s (f a) ∷ l) (resets_are n (a + 1))
 
   pub resets_places : (a b : ℕ) → resets s (places f a b) ≡ places (λ k. reset s (f k)) a b
   unfolding places
-  resets_places a b = resets_in (b - a) a
+  resets_places a b = resets_are (b - a) a
 
 module _ (x : ℕ) (f : ℕ → marks.Entry) where
   abbrev pub mark_entry : marks.Entry → marks.Entry

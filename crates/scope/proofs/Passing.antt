@@ -6,7 +6,7 @@ use mathlib.Core.Bool.{Bool, true, false, not}
 use mathlib.Core.List.{List, [], ◌∷◌}
 use lib.ListN.{length, get_or, length-append}
 use Rattle.tree.specs.Bytes.{pick, value_at}
-use Rattle.tree.specs.Forest.{Spot, spot_at}
+use Rattle.tree.specs.Forest.{Spot, node_spot}
 use Rattle.tree.specs.Table.{table_of, underscored}
 use Rattle.rules.specs.Record.{keep}
 use Rattle.rules.specs.Names.{same}
@@ -20,7 +20,7 @@ use Rattle.scope.specs.declared.table.Like.TheVariants.{Name}
 use Rattle.scope.specs.declared.Entry.{Entry}
 use Rattle.scope.specs.declared.Scope.{Scope}
 use Rattle.scope.proofs.Lists.{places_none, places_cons, places_length}
-use Rattle.scope.proofs.Cells.{same_spots, same_entries, same_warnings, joined_list, join_else, join_length, join_end, join_next}
+use Rattle.scope.proofs.Cells.{same_spots, same_entries, same_warnings, joined_list, join_else, join_length, join_end_is, join_next}
 use Rattle.scope.proofs.Frames.{rooms_same}
 use Rattle.scope.proofs.Leaves.{Warns, sets_in, farewell_warns}
 
@@ -54,19 +54,19 @@ module _ (t w : List ℕ) (r : Scope) (f : Fits w r) (z : ℕ) (y : 6144 ≤ z) 
       ∙ sets_in t v r.entries r.first r.settings i f.first
 
   pass_step : (v : List ℕ) (e k : ℕ) (l : List Spot) → k < r.looses → Passes t w v z e k r.looses l → (x : Bool) → is_in t v Name r.first r.settings (node_in v k) ≡ x
-      → Passes t w (pick x v (join_words t v z e 13312 (node_in v k))) z (pick x e (join_end t v z e 13312 (node_in v k))) (k + 1) r.looses (pick x l (add same (spot_at t (node_in v k)) l))
+      → Passes t w (pick x v (join_words t v z e 13312 (node_in v k))) z (pick x e (join_end t v z e 13312 (node_in v k))) (k + 1) r.looses (pick x l (add same (node_spot t (node_in v k)) l))
   pass_step v e k l h p true q =
       record { low = p.low; rest = λ j a b. p.rest j (omega arith) b; long = p.long; from = p.from; upto = omega (arith, p.upto); list = p.list }
   pass_step v e k l h p false q =
       let i = node_in v k in
-      let n = join_end t v z e 13312 i (omega (arith, p.upto, f.looses)) in
+      let n = join_end_is t v z e 13312 i (omega (arith, p.upto, f.looses)) in
       record {
         low = λ j a. join_else t v z e 13312 i j (λ c d. omega (arith, p.from)) ∙ p.low j a;
         rest = λ j a b. join_else t v z e 13312 i j (λ c d. omega (arith, p.upto)) ∙ p.rest j (omega arith) b;
         long = join_length t v z e 13312 i ∙ p.long;
         from = omega (arith, p.from, n.0);
         upto = omega (arith, p.upto, join_next t v z e 13312 i);
-        list = joined_list t v z e 13312 i p.from (omega (arith, p.upto, p.long, f.looses, f.words)) (λ c. omega (arith, p.upto, f.looses)) ∙ ap (add same (spot_at t i)) p.list;
+        list = joined_list t v z e 13312 i p.from (omega (arith, p.upto, p.long, f.looses, f.words)) (λ c. omega (arith, p.upto, f.looses)) ∙ ap (add same (node_spot t i)) p.list;
       }
 
   -- a use more or none, kept or not
@@ -74,18 +74,18 @@ module _ (t w : List ℕ) (r : Scope) (f : Fits w r) (z : ℕ) (y : 6144 ≤ z) 
   adds_by x ss l true e = ap (λ (k : List Spot). adds same k l) (keep_not unset x ss (ap not e))
   adds_by x ss l false e = ap (λ (k : List Spot). adds same k l) (keep_so unset x ss (ap not e))
 
-  pass_lines : (v : List ℕ) (e i : ℕ) (b : Bool) → is_in t v Name r.first r.settings i ≡ b
+  pass_lines_are : (v : List ℕ) (e i : ℕ) (b : Bool) → is_in t v Name r.first r.settings i ≡ b
       → pass_lines t r.first r.settings z v e i ≡ record { words = pick b v (join_words t v z e 13312 i); count = pick b e (join_end t v z e 13312 i) }
   unfolding pass_lines
-  pass_lines v e i true q = rw q
-  pass_lines v e i false q = rw q
+  pass_lines_are v e i true q = rw q
+  pass_lines_are v e i false q = rw q
 
-  spot_same : (v : List ℕ) (k : ℕ) → get_or v k 0 ≡ get_or w k 0 → spot_in t w k ≡ spot_at t (node_in v k)
+  spot_same : (v : List ℕ) (k : ℕ) → get_or v k 0 ≡ get_or w k 0 → spot_in t w k ≡ node_spot t (node_in v k)
   unfolding spot_in
   spot_same v k e = rw e
 
-  value_spot : (i : ℕ) → (spot_at t i).value ≡ value_at t i
-  unfolding spot_at
+  value_spot : (i : ℕ) → (node_spot t i).value ≡ value_at t i
+  unfolding node_spot
   value_spot i = refl
 
   passes : (m k : ℕ) (v : List ℕ) (e : ℕ) (l : List Spot) → k + m ≡ r.looses → Passes t w v z e k r.looses l
@@ -100,16 +100,16 @@ module _ (t w : List ℕ) (r : Scope) (f : Fits w r) (z : ℕ) (y : 6144 ≤ z) 
       let i = node_in v k in
       let b = is_in t v Name r.first r.settings i in
       let x = spot_same v k (p.rest k (omega arith) (omega arith)) in
-      let n : sets_name (spot_at t i).value here ≡ b = ap (λ (y : ℕ). sets_name y here) (value_spot i) ∙ sets_same v i p.low in
+      let n : sets_name (node_spot t i).value here ≡ b = ap (λ (y : ℕ). sets_name y here) (value_spot i) ∙ sets_same v i p.low in
       let d = pass_step v e k l (omega arith) p b refl in
       let rest = places (spot_in t w) (k + 1) r.looses in
-      let c : places (spot_in t w) k r.looses ≡ spot_at t i ∷ rest = places_cons (spot_in t w) k r.looses (omega arith) ∙ ap (λ (a : Spot). a ∷ rest) x in
-      let g : adds same (keep unset (places (spot_in t w) k r.looses)) l ≡ adds same (keep unset rest) (pick b l (add same (spot_at t i) l)) =
-      ap (λ (a : List Spot). adds same (keep unset a) l) c ∙ adds_by (spot_at t i) rest l b n in
+      let c : places (spot_in t w) k r.looses ≡ node_spot t i ∷ rest = places_cons (spot_in t w) k r.looses (omega arith) ∙ ap (λ (a : Spot). a ∷ rest) x in
+      let g : adds same (keep unset (places (spot_in t w) k r.looses)) l ≡ adds same (keep unset rest) (pick b l (add same (node_spot t i) l)) =
+      ap (λ (a : List Spot). adds same (keep unset a) l) c ∙ adds_by (node_spot t i) rest l b n in
       subst (λ (a : List Spot). Passes t w (passes_in t r.first r.settings z v e k (suc m)).words z (passes_in t r.first r.settings z v e k (suc m)).count r.looses r.looses a) (sym g)
       (subst (λ (a : Lines). Passes t w (passes_in t r.first r.settings z a.words a.count (k + 1) m).words z (passes_in t r.first r.settings z a.words a.count (k + 1) m).count r.looses r.looses
-      (adds same (keep unset rest) (pick b l (add same (spot_at t i) l)))) (sym (pass_lines v e i b refl))
-      (passes m (k + 1) (pick b v (join_words t v z e 13312 i)) (pick b e (join_end t v z e 13312 i)) (pick b l (add same (spot_at t i) l)) (omega arith) d))
+      (adds same (keep unset rest) (pick b l (add same (node_spot t i) l)))) (sym (pass_lines_are v e i b refl))
+      (passes m (k + 1) (pick b v (join_words t v z e 13312 i)) (pick b e (join_end t v z e 13312 i)) (pick b l (add same (node_spot t i) l)) (omega arith) d))
 
   passed_is : z ≤ r.loose
       → Passes t w (passed_of t w z r).words z (passed_of t w z r).count r.looses r.looses (adds same (keep unset (places (spot_in t w) r.loose r.looses)) (places (spot_in t w) z r.loose))

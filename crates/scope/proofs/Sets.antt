@@ -11,7 +11,7 @@ use lib.ListN.{length, get_or, set, length-set, length-append}
 use lib.Seq.{get_or-set_same}
 use borrow.Author.Tests.{ltb-true, ltb-false, eq-eqb}
 use Rattle.tree.specs.Bytes.{kind_at, value_at}
-use Rattle.tree.specs.Forest.{spot_at}
+use Rattle.tree.specs.Forest.{node_spot}
 use Rattle.rules.specs.Names.{same}
 use Rattle.rules.specs.code.Marks as marks
 use Rattle.rules.specs.code.Marks.{House, has_entry, set_entry, set_room, reset, resets, total, settings_in}
@@ -30,7 +30,7 @@ use Rattle.scope.proofs.Frames.{Calm, rooms_same, sum_settings, settings_length}
 use Rattle.scope.proofs.Steps.{added_there, added_new, added_full}
 
 abbrev pub set_house : List ℕ → ℕ → House → House
-set_house t i m = record { here = set_room (sort_of (kind_at t i)) (spot_at t i) m.here; above = m.above; out = m.out }
+set_house t i m = record { here = set_room (sort_of (kind_at t i)) (node_spot t i) m.here; above = m.above; out = m.out }
 
 sure_level : (b : Bool) → level_of (sure_entry b).standing ≡ marks.Definitely
 sure_level false = refl
@@ -42,12 +42,12 @@ sure_held true = refl
 
 -- an entry after a reset
 reset_entry : (t w : List ℕ) (es fs : List Entry) (i k : ℕ) → get_or fs k no_entry ≡ reset_of t (get_or es k no_entry) (node_in w k) i
-    → entry_in t w fs k ≡ reset (spot_at t i) (entry_in t w es k)
-unfolding entry_in reset_of alike_at spot_at
+    → entry_in t w fs k ≡ reset (node_spot t i) (entry_in t w es k)
+unfolding entry_in reset_of alike_at node_spot
 reset_entry t w es fs i k e = go (eqb (value_at t (node_in w k)) (value_at t i)) refl
   where
-    go : (x : Bool) → eqb (value_at t (node_in w k)) (value_at t i) ≡ x → entry_in t w fs k ≡ reset (spot_at t i) (entry_in t w es k)
-    go true q = rw (e, q, sure_level (same (spot_at t i) (spot_at t (node_in w k))), sure_held (same (spot_at t i) (spot_at t (node_in w k))))
+    go : (x : Bool) → eqb (value_at t (node_in w k)) (value_at t i) ≡ x → entry_in t w fs k ≡ reset (node_spot t i) (entry_in t w es k)
+    go true q = rw (e, q, sure_level (same (node_spot t i) (node_spot t (node_in w k))), sure_held (same (node_spot t i) (node_spot t (node_in w k))))
     go false q = rw (e, q)
 
 has_in : (t w : List ℕ) (es : List Entry) (a b i : ℕ) → a ≤ b → has_entry (setting_at t i) (places (entry_in t w es) a b) ≡ is_in t w TheSetting a b i
@@ -57,13 +57,13 @@ has_in t w es a b i h = entry_any (setting_at t i) (places (entry_in t w es) a b
 module _ (t w : List ℕ) (s : Scope) (i : ℕ) (f : Fits w s) where
   -- every setting up to the last is reset
   settled_entries : places (entry_in t w (resets_in t w i s.entries s.first (s.settings - s.first))) s.first s.settings
-      ≡ resets (spot_at t i) (places (entry_in t w s.entries) s.first s.settings)
+      ≡ resets (node_spot t i) (places (entry_in t w s.entries) s.first s.settings)
   settled_entries =
       let e : s.first + (s.settings - s.first) ≡ s.settings = omega (arith, f.first) in
-      agree (entry_in t w (resets_in t w i s.entries s.first (s.settings - s.first))) (λ k. reset (spot_at t i) (entry_in t w s.entries k)) s.first s.settings
+      agree (entry_in t w (resets_in t w i s.entries s.first (s.settings - s.first))) (λ k. reset (node_spot t i) (entry_in t w s.entries k)) s.first s.settings
       (λ k p q. reset_entry t w s.entries (resets_in t w i s.entries s.first (s.settings - s.first)) i k
       (resets_at t w i (s.settings - s.first) s.first s.entries k p (omega (arith, f.first)) (omega (arith, f.first, f.settings, f.wide))))
-      ∙ sym (resets_places (spot_at t i) (entry_in t w s.entries) s.first s.settings)
+      ∙ sym (resets_places (node_spot t i) (entry_in t w s.entries) s.first s.settings)
 
   settled_fits : Fits w (settled_scope t w s i)
   unfolding settled_scope
@@ -174,23 +174,23 @@ module _ (t w : List ℕ) (s : Scope) (i : ℕ) (f : Fits w s) where
     unfolding entry_in
     old_entry k p q = rw (grown_else k (omega arith) (omega arith) (omega arith), grown_else (1024 + k) (omega arith) (omega arith) (omega arith))
 
-    new_entry : reset (spot_at t i) (entry_in t grown s.entries s.settings)
-        ≡ record { sort = sort_of (kind_at t i); spot = spot_at t i; used = false; held = true; level = marks.Definitely }
+    new_entry : reset (node_spot t i) (entry_in t grown s.entries s.settings)
+        ≡ record { sort = sort_of (kind_at t i); spot = node_spot t i; used = false; held = true; level = marks.Definitely }
     unfolding entry_in
-    new_entry = rw (grown_node, grown_used, f.clean s.settings (omega arith), eq-eqb (spot_at t i).value (spot_at t i).value refl, eq-eqb (spot_at t i).begin (spot_at t i).begin refl, eq-eqb (spot_at t i).end (spot_at t i).end refl)
+    new_entry = rw (grown_node, grown_used, f.clean s.settings (omega arith), eq-eqb (node_spot t i).value (node_spot t i).value refl, eq-eqb (node_spot t i).begin (node_spot t i).begin refl, eq-eqb (node_spot t i).end (node_spot t i).end refl)
 
     ap2 : {l m : List marks.Entry} {x y : marks.Entry} → l ≡ m → x ≡ y → l ++ (x ∷ []) ≡ m ++ (y ∷ [])
     ap2 p q = rw (p, q)
 
-    grown_entries : places (λ k. reset (spot_at t i) (entry_in t grown s.entries k)) s.first (s.settings + 1)
-        ≡ resets (spot_at t i) (places (entry_in t w s.entries) s.first s.settings)
-        ++ (record { sort = sort_of (kind_at t i); spot = spot_at t i; used = false; held = true; level = marks.Definitely } ∷ [])
+    grown_entries : places (λ k. reset (node_spot t i) (entry_in t grown s.entries k)) s.first (s.settings + 1)
+        ≡ resets (node_spot t i) (places (entry_in t w s.entries) s.first s.settings)
+        ++ (record { sort = sort_of (kind_at t i); spot = node_spot t i; used = false; held = true; level = marks.Definitely } ∷ [])
     grown_entries =
-        places_last (λ k. reset (spot_at t i) (entry_in t grown s.entries k)) s.first s.settings f.first
+        places_last (λ k. reset (node_spot t i) (entry_in t grown s.entries k)) s.first s.settings f.first
         ∙ ap2
-        (agree (λ k. reset (spot_at t i) (entry_in t grown s.entries k)) (λ k. reset (spot_at t i) (entry_in t w s.entries k)) s.first s.settings
-        (λ k p q. ap (reset (spot_at t i)) (old_entry k p q))
-        ∙ sym (resets_places (spot_at t i) (entry_in t w s.entries) s.first s.settings))
+        (agree (λ k. reset (node_spot t i) (entry_in t grown s.entries k)) (λ k. reset (node_spot t i) (entry_in t w s.entries k)) s.first s.settings
+        (λ k p q. ap (reset (node_spot t i)) (old_entry k p q))
+        ∙ sym (resets_places (node_spot t i) (entry_in t w s.entries) s.first s.settings))
         new_entry
 
     wider_kept : Kept w s grown wider
@@ -231,7 +231,7 @@ module _ (t w : List ℕ) (s : Scope) (i : ℕ) (f : Fits w s) where
         has_in t w s.entries s.first s.settings i f.first,
         e,
         settled_entries t v (wider t w s i f) i (wider_fits t w s i f room),
-        resets_places (spot_at t i) (entry_in t v s.entries) s.first (s.settings + 1),
+        resets_places (node_spot t i) (entry_in t v s.entries) s.first (s.settings + 1),
         grown_entries t w s i f room,
         rooms_same t w v outer s inside (grown_calm t w s i f room),
         same_spots t w v s.cant s.cants (λ k p q. else k (omega (arith, f.cant_from)) (omega (arith, f.cant_from)) (omega (arith, f.cant_from))),
@@ -245,18 +245,18 @@ module _ (t w : List ℕ) (s : Scope) (i : ℕ) (f : Fits w s) where
   unfolding house_of room_of
   full_not outer inside e h l =
       let es = places (entry_in t w s.entries) s.first s.settings in
-      let n = settings_length (set_entry (sort_of (kind_at t i)) (spot_at t i) es) in
+      let n = settings_length (set_entry (sort_of (kind_at t i)) (node_spot t i) es) in
       omega (arith, n, length_put, sum_settings t w outer s inside, f.first)
     where
-      resets_len : (l : List marks.Entry) → length (resets (spot_at t i) l) ≡ length l
+      resets_len : (l : List marks.Entry) → length (resets (node_spot t i) l) ≡ length l
       resets_len [] = refl
       resets_len (x ∷ l) = ap suc (resets_len l)
 
-      length_put : length (set_entry (sort_of (kind_at t i)) (spot_at t i) (places (entry_in t w s.entries) s.first s.settings)) ≡ s.settings - s.first + 1
+      length_put : length (set_entry (sort_of (kind_at t i)) (node_spot t i) (places (entry_in t w s.entries) s.first s.settings)) ≡ s.settings - s.first + 1
       length_put =
           let es = places (entry_in t w s.entries) s.first s.settings in
           rw (has_in t w s.entries s.first s.settings i f.first, e)
-          (length-append (resets (spot_at t i) es) (record { sort = sort_of (kind_at t i); spot = spot_at t i; used = false; held = true; level = marks.Definitely } ∷ [])
+          (length-append (resets (node_spot t i) es) (record { sort = sort_of (kind_at t i); spot = node_spot t i; used = false; held = true; level = marks.Definitely } ∷ [])
           ∙ omega (arith, resets_len es, places_length (entry_in t w s.entries) s.first s.settings))
 
   pub set_does : Does t (λ m. RoomFor (set_house t i m)) (set_house t i) w s (added_words t w s i) (set_scope t w s i)

@@ -11,7 +11,7 @@ use lib.ListN.{length, get_or, set, length-set}
 use lib.Seq.{get_or-set_same}
 use borrow.Author.Tests.{eq-eqb, ne_eqb}
 use Rattle.tree.specs.Bytes.{pick, value_at}
-use Rattle.tree.specs.Forest.{spot_at}
+use Rattle.tree.specs.Forest.{node_spot}
 use Rattle.rules.specs.Names.{Found, nowhere, surely, perhaps, warn}
 use Rattle.rules.specs.code.Marks as marks
 use Rattle.rules.specs.code.Marks.{House, level_at, mark_room, use_level, look_out, look_step, Looked}
@@ -119,7 +119,7 @@ module _ (t : List ℕ) (i : ℕ) where
 
     marks_entry : (w : List ℕ) (a b k : ℕ) → a ≤ k → k < b → b ≤ 1024 → 2048 ≤ length w
         → entry_in t (marks_of t es i w a b) es k ≡ mark_entry (value_at t i) (entry_in t w es) (entry_in t w es k)
-    unfolding marks_of entry_in spot_at
+    unfolding marks_of entry_in node_spot
     marks_entry w a b k p q r l = rw (marks_in_else (b - a) a w k (λ x y z. omega arith), marks_in_at (b - a) a w k p (omega arith) (omega arith) l)
 
     -- a scope whose settings are at these places, with these entries
@@ -142,7 +142,7 @@ module _ (t : List ℕ) (i : ℕ) where
 
   -- the standing of the name
   level_in : (w : List ℕ) (es : List Entry) (a b : ℕ) → a ≤ b → level_at (value_at t i) (places (entry_in t w es) a b) ≡ level_of (standing_in t w es a b i)
-  unfolding standing_in find_in alike_at entry_in spot_at
+  unfolding standing_in find_in alike_at entry_in node_spot
   level_in w es a b h =
       find_places (λ s. eqb (value_at t i) s.value) (λ e. e.level) marks.Absent (entry_in t w es) a b h
       ∙ go (ltb (seek (λ k. eqb (value_at t i) (value_at t (node_in w k))) a b) b)
@@ -216,20 +216,20 @@ module _ (t w : List ℕ) (i : ℕ) (s : Scope) (f : Fits w s) where
   -- a use of a name that has a standing in the innermost scope
   abbrev Taken : Standing → Type 0
   Taken st =
-      Does t (λ m. RoomFor (use_level (spot_at t i) m (level_of st))) (λ m. use_level (spot_at t i) m (level_of st)) w s
+      Does t (λ m. RoomFor (use_level (node_spot t i) m (level_of st))) (λ m. use_level (node_spot t i) m (level_of st)) w s
       (taken_words t w s s.first s.settings i st) (taken_scope t w s s.first s.settings i st)
 
   taken_maybe : Taken Maybe
-  unfolding taken_words taken_scope spot_at
+  unfolding taken_words taken_scope node_spot
   taken_maybe =
       let d = does_then t w (marks_of t s.entries i w s.first s.settings) (warn_words t (marks_of t s.entries i w s.first s.settings) s.warnings 6 i) s s
-      (with_warnings (warn_count t (marks_of t s.entries i w s.first s.settings) s.warnings i) s) (λ m. Unit {0}) (λ m. length (warn 6 (spot_at t i) m.out) ≤ 1024)
-      (mark_house (value_at t i)) (warn_house 6 (spot_at t i)) mark_does
+      (with_warnings (warn_count t (marks_of t s.entries i w s.first s.settings) s.warnings i) s) (λ m. Unit {0}) (λ m. length (warn 6 (node_spot t i) m.out) ≤ 1024)
+      (mark_house (value_at t i)) (warn_house 6 (node_spot t i)) mark_does
       (warn_does t (marks_of t s.entries i w s.first s.settings) s 6 i mark_does.fits) in
       record { fits = d.fits; kept = d.kept; house = λ outer p q. d.house outer p (tt, q.3) }
 
   taken_surely : Taken Definitely
-  unfolding taken_words taken_scope spot_at
+  unfolding taken_words taken_scope node_spot
   taken_surely = record { fits = mark_does.fits; kept = mark_does.kept; house = λ outer p q. mark_does.house outer p tt }
 
   taken_does : (st : Standing) → present_of st ≡ true → Taken st
@@ -385,7 +385,7 @@ module _ (t w : List ℕ) (i : ℕ) (es : List Entry) where
 
 module _ (t w : List ℕ) (s : Scope) (i : ℕ) (f : Fits w s) where
   abbrev use_house : House → House
-  use_house m = use_level (spot_at t i) m (level_at (spot_at t i).value m.here.entries)
+  use_house m = use_level (node_spot t i) m (level_at (node_spot t i).value m.here.entries)
 
   -- where the search outward ends
   abbrev B : ℕ
@@ -393,14 +393,14 @@ module _ (t w : List ℕ) (s : Scope) (i : ℕ) (f : Fits w s) where
 
   -- the use is found outside: the spans of its name are used there
   abbrev away_house : House → House
-  away_house m = record { here = m.here; above = (look_out (spot_at t i).value m.above).rooms; out = m.out }
+  away_house m = record { here = m.here; above = (look_out (node_spot t i).value m.above).rooms; out = m.out }
 
   module _ (low : 0 < B) (base : base_in w (B - 1) < B) (small : B ≤ 1024) where
     abbrev marked : List ℕ
     marked = marks_of t s.entries i w (base_in w (B - 1)) B
 
     marked_does : Does t (λ m. Unit {0}) away_house w s marked s
-    unfolding house_of outward_of spot_at
+    unfolding house_of outward_of node_spot
     marked_does =
         record {
           fits = marks_fits t w i s s.entries (base_in w (B - 1)) B small f;
@@ -419,7 +419,7 @@ module _ (t w : List ℕ) (s : Scope) (i : ℕ) (f : Fits w s) where
             )
 
   use_outside : House → House
-  use_outside m = use_level (spot_at t i) m marks.Absent
+  use_outside m = use_level (node_spot t i) m marks.Absent
 
   abbrev st : Standing
   st = standing_in t w s.entries (base_in w (B - 1)) B i
@@ -428,7 +428,7 @@ module _ (t w : List ℕ) (s : Scope) (i : ℕ) (f : Fits w s) where
   Away v r = Does t (λ m. RoomFor (use_outside m)) use_outside w s v r
 
   unfound : B ≡ 0 → Away (unbinds_words t (cannot_words t w s i) (cannot_scope t w s i) i) (unbinds_scope t (cannot_words t w s i) (cannot_scope t w s i) i)
-  unfolding use_outside outward_of house_of spot_at
+  unfolding use_outside outward_of house_of node_spot
   unfound z =
       let c = cannot_does t w s i f in
       let d = does_then t w (cannot_words t w s i) (unbinds_words t (cannot_words t w s i) (cannot_scope t w s i) i) s (cannot_scope t w s i) (unbinds_scope t (cannot_words t w s i) (cannot_scope t w s i) i)
@@ -444,18 +444,18 @@ module _ (t w : List ℕ) (s : Scope) (i : ℕ) (f : Fits w s) where
       }
     where
       same_there : (outer : List Scope) → NoWhere t w i s.entries outer B ⊎ At t w i s.entries outer s.first B
-          → use_level (spot_at t i) (house_of t w s outer) marks.Absent
-          ≡ record { here = marks.unbinds_room (spot_at t i ∷ []) (marks.cannot_room (spot_at t i) (room_of t w s)); above = rooms_of t w outer; out = out_of t w s.warnings }
+          → use_level (node_spot t i) (house_of t w s outer) marks.Absent
+          ≡ record { here = marks.unbinds_room (node_spot t i ∷ []) (marks.cannot_room (node_spot t i) (room_of t w s)); above = rooms_of t w outer; out = out_of t w s.warnings }
       same_there outer (inl n) = rw n.looked
       same_there outer (inr n) = absurd (omega (arith, n.low))
 
   module _ (low : 0 < B) (base : base_in w (B - 1) < B) (small : B ≤ 1024) where
     -- what the search found
-    found_is : (outer : List Scope) → Inside w s outer → (present_of st ≡ true) × ((look_out (spot_at t i).value (rooms_of t w outer)).found ≡ found_of st)
-    unfolding outward_of spot_at
+    found_is : (outer : List Scope) → Inside w s outer → (present_of st ≡ true) × ((look_out (node_spot t i).value (rooms_of t w outer)).found ≡ found_of st)
+    unfolding outward_of node_spot
     found_is outer p = go (sought t w i s.entries outer s.first B (under_of t w i s.entries outer s (λ k h. refl) p) refl)
       where
-        go : NoWhere t w i s.entries outer B ⊎ At t w i s.entries outer s.first B → (present_of st ≡ true) × ((look_out (spot_at t i).value (rooms_of t w outer)).found ≡ found_of st)
+        go : NoWhere t w i s.entries outer B ⊎ At t w i s.entries outer s.first B → (present_of st ≡ true) × ((look_out (node_spot t i).value (rooms_of t w outer)).found ≡ found_of st)
         go (inl n) = absurd (omega (arith, n.zero))
         go (inr n) = (n.present, ap (λ (l : Looked). l.found) n.looked)
 
@@ -487,7 +487,7 @@ module _ (t w : List ℕ) (s : Scope) (i : ℕ) (f : Fits w s) where
           kept = d.kept;
           house = λ outer p q.
               let n = (found_is outer p).1 ∙ definite st e in
-              let z : use_level (spot_at t i) (house_of t w s outer) marks.Absent ≡ cannot_house t v s i a.fits (away_house (house_of t w s outer)) = rw n in
+              let z : use_level (node_spot t i) (house_of t w s outer) marks.Absent ≡ cannot_house t v s i a.fits (away_house (house_of t w s outer)) = rw n in
               d.house outer p (tt, (rw z at q).1) ∙ sym z;
         }
 
@@ -500,17 +500,17 @@ module _ (t w : List ℕ) (s : Scope) (i : ℕ) (f : Fits w s) where
         let a = marked_does low base small in
         let u = warn_words t v s.warnings 6 i in
         let r = with_warnings (warn_count t v s.warnings i) s in
-        let b = does_then t w v u s s r (λ m. Unit {0}) (λ m. length (warn 6 (spot_at t i) m.out) ≤ 1024) away_house (warn_house 6 (spot_at t i)) a (warn_does t v s 6 i a.fits) in
-        let d = does_then t w u (cannot_words t u r i) s r (cannot_scope t u r i) (λ m. Unit {0} × (length (warn 6 (spot_at t i) m.out) ≤ 1024))
+        let b = does_then t w v u s s r (λ m. Unit {0}) (λ m. length (warn 6 (node_spot t i) m.out) ≤ 1024) away_house (warn_house 6 (node_spot t i)) a (warn_does t v s 6 i a.fits) in
+        let d = does_then t w u (cannot_words t u r i) s r (cannot_scope t u r i) (λ m. Unit {0} × (length (warn 6 (node_spot t i) m.out) ≤ 1024))
         (λ m. marks.total marks.cant_in (cannot_house t u r i b.fits m) ≤ 1024)
-        (λ m. warn_house 6 (spot_at t i) (away_house m)) (cannot_house t u r i b.fits) b (cannot_does t u r i b.fits) in
+        (λ m. warn_house 6 (node_spot t i) (away_house m)) (cannot_house t u r i b.fits) b (cannot_does t u r i b.fits) in
         record {
           fits = d.fits;
           kept = d.kept;
           house = λ outer p q.
               let x = found_is outer p in
               let n = x.1 ∙ unsure st x.0 e in
-              let z : use_level (spot_at t i) (house_of t w s outer) marks.Absent ≡ cannot_house t u r i b.fits (warn_house 6 (spot_at t i) (away_house (house_of t w s outer))) = rw n in
+              let z : use_level (node_spot t i) (house_of t w s outer) marks.Absent ≡ cannot_house t u r i b.fits (warn_house 6 (node_spot t i) (away_house (house_of t w s outer))) = rw n in
               d.house outer p ((tt, (rw z at q).3), (rw z at q).1) ∙ sym z;
         }
 
@@ -531,8 +531,8 @@ module _ (t w : List ℕ) (s : Scope) (i : ℕ) (f : Fits w s) where
   abbrev own : Standing
   own = standing_in t w s.entries s.first s.settings i
 
-  own_level : (outer : List Scope) → level_at (spot_at t i).value (house_of t w s outer).here.entries ≡ level_of own
-  unfolding house_of room_of spot_at
+  own_level : (outer : List Scope) → level_at (node_spot t i).value (house_of t w s outer).here.entries ≡ level_of own
+  unfolding house_of room_of node_spot
   own_level outer = level_in t i w s.entries s.first s.settings f.first
 
   pub used_does : Does t (λ m. RoomFor (use_house m)) use_house w s (used_words t w s i) (used_scope t w s i)
@@ -553,12 +553,12 @@ module _ (t w : List ℕ) (s : Scope) (i : ℕ) (f : Fits w s) where
           rw e (record {
             fits = d.fits;
             kept = d.kept;
-            house = λ outer p q. let z = ap (use_level (spot_at t i) (house_of t w s outer)) (own_level outer) in d.house outer p (rw z at q) ∙ sym z;
+            house = λ outer p q. let z = ap (use_level (node_spot t i) (house_of t w s outer)) (own_level outer) in d.house outer p (rw z at q) ∙ sym z;
           })
       go false e =
           let d = away_does in
           rw e (record {
             fits = d.fits;
             kept = d.kept;
-            house = λ outer p q. let z = ap (use_level (spot_at t i) (house_of t w s outer)) (own_level outer ∙ absent own e) in d.house outer p (rw z at q) ∙ sym z;
+            house = λ outer p q. let z = ap (use_level (node_spot t i) (house_of t w s outer)) (own_level outer ∙ absent own e) in d.house outer p (rw z at q) ∙ sym z;
           })

@@ -1,7 +1,7 @@
 -- What a scope state and the words of the work room stand for: the house of rules' Marks. Assumes nothing.
 use Rattle.std.specs.Prelude.{ℕ, ◌+◌, ◌≤◌, ◌<◌, ◌≡◌, Bool, true, false, List, [], ◌∷◌, eqb, length, get_or}
 use Rattle.tree.specs.Bytes.{pick, kind_at}
-use Rattle.tree.specs.Forest.{Spot, spot_at}
+use Rattle.tree.specs.Forest.{Spot, node_spot}
 use Rattle.rules.specs.Order.{Sort}
 use Rattle.rules.specs.Names as rules
 use Rattle.rules.specs.Names.{Warning}
@@ -56,20 +56,20 @@ abbrev pub base_in : List ℕ → ℕ → ℕ
 base_in w k = get_or w (2048 + k) 0
 
 unfoldable pub spot_in : List ℕ → List ℕ → ℕ → Spot
-spot_in t w k = spot_at t (get_or w k 0)
+spot_in t w k = node_spot t (get_or w k 0)
 
 unfoldable pub entry_in : List ℕ → List ℕ → List Entry → ℕ → marks.Entry
 entry_in t w es k =
     record {
       sort = sort_of (kind_at t (get_or w k 0));
-      spot = spot_at t (get_or w k 0);
+      spot = node_spot t (get_or w k 0);
       used = eqb (used_in w k) 1;
       held = held_of (get_or es k no_entry).standing;
       level = level_of (get_or es k no_entry).standing;
     }
 
 unfoldable pub warning_in : List ℕ → List ℕ → ℕ → Warning
-warning_in t w k = record { code = get_or w (4096 + k) 0; spot = spot_at t (get_or w (3072 + k) 0) }
+warning_in t w k = record { code = get_or w (4096 + k) 0; spot = node_spot t (get_or w (3072 + k) 0) }
 
 unfoldable pub room_of : List ℕ → List ℕ → Scope → Chamber
 room_of t w s =

@@ -1,7 +1,7 @@
 -- The steps of the methods on the words and the entries, as the code takes them: proofs/ has what they do to the house. Assumes nothing.
 use Rattle.std.specs.Prelude.{ℕ, zero, suc, ◌+◌, ◌-◌, Bool, true, false, ◌&&◌, ◌||◌, not, List, eqb, ltb, get_or, set, replicate}
 use Rattle.tree.specs.Bytes.{pick, kind_at, value_at, global_count}
-use Rattle.tree.specs.Forest.{spot_at}
+use Rattle.tree.specs.Forest.{node_spot}
 use Rattle.tree.specs.Table.{table_of, underscored, is_global}
 use Rattle.rules.specs.Names.{same, unused, Setting}
 use Rattle.rules.specs.Names as rules
@@ -19,11 +19,11 @@ use Rattle.scope.specs.declared.Scope.{Scope}
 
 -- node a is like node b
 abbrev pub setting_at : List ℕ → ℕ → Setting
-setting_at t i = record { sort = sort_of (kind_at t i); spot = spot_at t i }
+setting_at t i = record { sort = sort_of (kind_at t i); spot = node_spot t i }
 
 unfoldable pub alike_at : List ℕ → Like → ℕ → ℕ → Bool
 alike_at t Name a b = eqb (value_at t a) (value_at t b)
-alike_at t Spot a b = same (spot_at t a) (spot_at t b)
+alike_at t Spot a b = same (node_spot t a) (node_spot t b)
 alike_at t TheSetting a b = same_setting (setting_at t a) (setting_at t b)
 
 -- the first place from a up to b of a node like node i, or b; whether there is one

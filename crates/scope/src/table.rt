@@ -1,7 +1,7 @@
 // The words of the work room: lists of node numbers, and searches in them.
 ghost use Rattle.std.specs.Prelude.{◌≡◌, ◌+◌, ◌<◌, ◌≤◌, eqb, get_or, set};
 ghost use Rattle.tree.specs.Bytes.{value_at};
-ghost use Rattle.tree.specs.Forest.{spot_at};
+ghost use Rattle.tree.specs.Forest.{node_spot};
 ghost use Rattle.rules.specs.Names.{same, unused};
 ghost use Rattle.rules.specs.code.Marks.{same_setting};
 ghost use Rattle.rules.specs.Outcome.{work_words};
@@ -73,7 +73,7 @@ pub(crate) fn same_name(t: &[u8], a: usize, b: usize) -> bool
 }
 
 pub fn same_spot(t: &[u8], a: usize, b: usize) -> bool
-    ensures { result ≡ same (spot_at t.now a) (spot_at t.now b) }
+    ensures { result ≡ same (node_spot t.now a) (node_spot t.now b) }
 {
     if value_at(t, a) != value_at(t, b) {
         return false;

@@ -12,7 +12,7 @@ use Rattle.tree.specs.Nodes.{known}
 use Rattle.tree.specs.Children.{slot_of, many}
 use Rattle.tree.specs.code.Stages.{good6, bad6}
 use Rattle.tree.specs.code.Sound.{Sound}
-use Rattle.tree.specs.Forest.{Head, Forest, Forest.none as leaf, node, head_at, spot_at, forest_of, tree_of}
+use Rattle.tree.specs.Forest.{Head, Forest, Forest.none as leaf, node, node_head, node_spot, forest_of, tree_of}
 use Rattle.tree.specs.code.Part.{Part}
 use Rattle.tree.specs.declared.Facts.{Facts}
 use Rattle.tree.proofs.Search.{lowest_clear, not_so}
@@ -32,10 +32,10 @@ Straight h = h.spot.begin ≤ h.spot.end
 -- a node of the file t: its span and value are those of the node of its number
 pub record Sits (t : List ℕ) (h : Head) : Type 0 where
   pub below : h.number < node_count t
-  pub there : h.spot ≡ spot_at t h.number
+  pub there : h.spot ≡ node_spot t h.number
 
-head_spot : (t : List ℕ) (i : ℕ) → (head_at t i).spot ≡ spot_at t i
-unfolding head_at
+head_spot : (t : List ℕ) (i : ℕ) → (node_head t i).spot ≡ node_spot t i
+unfolding node_head
 head_spot t i = refl
 
 -- a role that one or more of these have is there
@@ -52,15 +52,15 @@ many_has (node h k s) r l = go (eqb h.role r) refl (many_has s r) l
 
 module _ (t : List ℕ) (f : Facts) (s : Sound t f) where
   -- "5 expression: E4": a statement of kind 5 has a child of role 4
-  stated : (i : ℕ) → i < node_count t → T (eqb (head_at t i).kind 5) → T (has 4 (forest_of t (i + 1) (i + size_at t i)))
-  unfolding head_at slot_of
+  stated : (i : ℕ) → i < node_count t → T (eqb (node_head t i).kind 5) → T (has 4 (forest_of t (i + 1) (i + size_at t i)))
+  unfolding node_head slot_of
   stated i l q =
       let e : kind_at t i ≡ 5 = eqb→eq (kind_at t i) 5 q in
       let m : (slot_of (kind_at t i) 4).least ≤ many 4 (forest_of t (i + 1) (i + size_at t i)) = (kid_many s l 4 (omega arith)).0 in
       let u : (slot_of 5 4).least ≤ many 4 (forest_of t (i + 1) (i + size_at t i)) = rw e at m in
       many_has (forest_of t (i + 1) (i + size_at t i)) 4 u
 
-  module _ (P : Head → Type 0) (holds : (i : ℕ) → i < node_count t → P (head_at t i)) where
+  module _ (P : Head → Type 0) (holds : (i : ℕ) → i < node_count t → P (node_head t i)) where
     part_held : {i e : ℕ} → Part t i e → e ≤ node_count t → Throughout P (forest_of t i e)
     part_held p = induct (λ i e. e ≤ node_count t → Throughout P (forest_of t i e)) t
         (λ i e h b. rw (forest_none t i e h) tt)
@@ -71,8 +71,8 @@ module _ (t : List ℕ) (f : Facts) (s : Sound t f) where
     unfolding tree_of
     tree_held = part_held (whole_part t f s) (omega arith)
 
-  node_straight : (i : ℕ) → i < node_count t → Straight (head_at t i)
-  unfolding bad6 good6 head_at spot_at
+  node_straight : (i : ℕ) → i < node_count t → Straight (node_head t i)
+  unfolding bad6 good6 node_head node_spot
   node_straight i h =
       let n = node_count t in
       let nv = value_count t in
@@ -80,10 +80,10 @@ module _ (t : List ℕ) (f : Facts) (s : Sound t f) where
       let g : good6 t n nv i ≡ true = not_so (good6 t n nv i) (lowest_clear n (bad6 t n nv) i (omega (arith, clear))) in
       leb-true _ _ (and_left (leb (begin_at t i) (end_at t i)) _ (and_right (known (kind_at t i)) _ g))
 
-  node_sits : (i : ℕ) → i < node_count t → Sits t (head_at t i)
+  node_sits : (i : ℕ) → i < node_count t → Sits t (node_head t i)
   node_sits i h =
       let few = s.few_nodes in
-      let e : (head_at t i).number ≡ i = number_own t i (omega arith) in
+      let e : (node_head t i).number ≡ i = number_own t i (omega arith) in
       record { below = omega arith; there = rw e (head_spot t i) }
 
   pub tree_straight : Throughout Straight (tree_of t)

@@ -6,7 +6,7 @@ use mathlib.Core.Option.{none}
 use Rattle.base.specs.Ascii.{ascii}
 use Rattle.tree.specs.Search.{first}
 use Rattle.tree.specs.Bytes.{u16_at, u32_at, node_count, value_count, global_count, kind_at, role_at, size_at, begin_at, end_at, value_at, last_at}
-use Rattle.tree.specs.Forest.{Head, spot_at, head_at, forest_in, forest_of, tree_of}
+use Rattle.tree.specs.Forest.{Head, node_spot, node_head, forest_in, forest_of, tree_of}
 use Rattle.tree.specs.Values.{offset}
 use Rattle.tree.specs.Written.{file}
 use Rattle.tree.specs.declared.Mode.TheVariants.{Ordinary}
@@ -34,5 +34,5 @@ pub examples :
     × (text_of true Off Ordinary [] [] [] ≡ ascii "refused 1 0\n")
     × (told true codes none (plainly 13 here ∷ []) ≡ ascii "13 0 1 65535 0 0 0 0 1 65535\ntotal 1\ntally 0 0 0 0 0 0 0 0 0 0 0 0 1 0 0 0 0\n")
     × (told true all_codes none (plainly 21 here ∷ []) ≡ ascii "21 0 1 65535 0 0 0 0 1 65535\ntotal 1\ntally 0 0 0 0 0 0 0 0 0 0 0 0 0 0 0 0 0 0 0 0 1 0\n")
-unfolding first u16_at u32_at node_count value_count global_count kind_at role_at size_at begin_at end_at value_at last_at spot_at head_at forest_in forest_of tree_of offset met_in names_list flow_list incompatible_list dubious_list lint_list digits decimal line records listing refused counts told text_of judged checks refusal
+unfolding first u16_at u32_at node_count value_count global_count kind_at role_at size_at begin_at end_at value_at last_at node_spot node_head forest_in forest_of tree_of offset met_in names_list flow_list incompatible_list dubious_list lint_list digits decimal line records listing refused counts told text_of judged checks refusal
 examples = (refl, refl, refl, refl, refl)

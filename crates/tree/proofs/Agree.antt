@@ -8,7 +8,7 @@ use lib.Dec.{ltb}
 use lib.ListN.{get_or}
 use borrow.Author.Tests.{ltb-true}
 use Rattle.tree.specs.Bytes.{bytes_from, u16_at, u32_at, node_at, kind_at, role_at, size_at, begin_at, end_at, value_at, last_at}
-use Rattle.tree.specs.Forest.{Forest, Forest.none as leaf, node, spot_at, head_at, forest_in, forest_of}
+use Rattle.tree.specs.Forest.{Forest, Forest.none as leaf, node, node_spot, node_head, forest_in, forest_of}
 use Rattle.tree.specs.Values.{Value, value_from, after}
 use Rattle.tree.specs.Table.{values_from}
 
@@ -64,23 +64,23 @@ module _ (t u : List ℕ) (low : ℕ) (Upto : ℕ → Type 0) (down : (j k : ℕ
     unfolding last_at
     last i b = two (node_at i + 14) (omega arith) (down (node_at i + 14 + 2) (node_at i + 16) (omega arith) b)
 
-    head : (i : ℕ) → Whole i → head_at t i ≡ head_at u i
-    unfolding head_at spot_at
+    head : (i : ℕ) → Whole i → node_head t i ≡ node_head u i
+    unfolding node_head node_spot
     head i b = rw (kind i b, role i b, begin i b, end i b, value i b)
 
     -- ---- the forest up to an end before which every node is whole, as before every end below
 
     module _ (End : ℕ → Type 0) (there : (i e : ℕ) → i < e → End e → Whole i) (below : (i e : ℕ) → i < e → End e → End (i + size_at t i)) where
-      forest_in : (k i e : ℕ) → End e → forest_in k t i e ≡ forest_in k u i e
+      forests_agree : (k i e : ℕ) → End e → forest_in k t i e ≡ forest_in k u i e
       unfolding forest_in
-      forest_in zero i e b = refl
-      forest_in (suc k) i e b =
-          go (ltb i e) refl (λ h. forest_in k (i + 1) (i + size_at t i) (below i e h b)) (forest_in k (i + size_at t i) e b)
+      forests_agree zero i e b = refl
+      forests_agree (suc k) i e b =
+          go (ltb i e) refl (λ h. forests_agree k (i + 1) (i + size_at t i) (below i e h b)) (forests_agree k (i + size_at t i) e b)
         where
           go : (c : Bool) → ltb i e ≡ c → (i < e → forest_in k t (i + 1) (i + size_at t i) ≡ forest_in k u (i + 1) (i + size_at t i))
               → forest_in k t (i + size_at t i) e ≡ forest_in k u (i + size_at t i) e
-              → ◌≡◌ {A = Forest} (elim c [ true ↦ node (head_at t i) (forest_in k t (i + 1) (i + size_at t i)) (forest_in k t (i + size_at t i) e) | false ↦ leaf ])
-              (elim c [ true ↦ node (head_at u i) (forest_in k u (i + 1) (i + size_at u i)) (forest_in k u (i + size_at u i) e) | false ↦ leaf ])
+              → ◌≡◌ {A = Forest} (elim c [ true ↦ node (node_head t i) (forest_in k t (i + 1) (i + size_at t i)) (forest_in k t (i + size_at t i) e) | false ↦ leaf ])
+              (elim c [ true ↦ node (node_head u i) (forest_in k u (i + 1) (i + size_at u i)) (forest_in k u (i + size_at u i) e) | false ↦ leaf ])
           go true q f g =
               let h : i < e = ltb-true i e q in
               let w : Whole i = there i e h b in
@@ -89,7 +89,7 @@ module _ (t u : List ℕ) (low : ℕ) (Upto : ℕ → Type 0) (down : (j k : ℕ
 
       pub forest : (i e : ℕ) → End e → forest_of t i e ≡ forest_of u i e
       unfolding forest_of
-      forest i e b = forest_in (e - i) i e b
+      forest i e b = forests_agree (e - i) i e b
 
   -- ---- the value at o, whose bytes are the same
 

@@ -7,7 +7,7 @@ use lib.ListN.{get_or}
 use borrow.Author.Tests.{lt-ltb}
 use Rattle.tree.specs.Bytes.{u16_at, u32_at, node_count, node_at, kind_at, role_at, size_at, begin_at, end_at, value_at}
 use Rattle.tree.specs.Values.{offset}
-use Rattle.tree.specs.Forest.{Head, Forest, none, node, spot_at, head_at, forest_of}
+use Rattle.tree.specs.Forest.{Head, Forest, none, node, node_spot, node_head, forest_of}
 use Rattle.tree.specs.code.Part.{Part}
 use Rattle.tree.proofs.Laws.{forest_none, forest_node, induct}
 
@@ -56,12 +56,12 @@ module _ (t : List ℕ) (bytes : (k : ℕ) → get_or t k 0 < 256) where
   value_low i = u16_low (node_at i + 12)
 
   pub part_small : {i e : ℕ} → Part t i e → Small (forest_of t i e)
-  unfolding head_at spot_at
+  unfolding node_head node_spot
   part_small p =
       induct (λ i e. Small (forest_of t i e)) t (λ i e h. rw (forest_none t i e h) small_none)
       (λ i e p lt u v. rw (forest_node p lt) (small_node (value_low i) u v)) p
 
 -- a node's number is the one that its head has
-pub number_own : (t : List ℕ) (i : ℕ) → i < 65535 → (head_at t i).number ≡ i
-unfolding head_at
+pub number_own : (t : List ℕ) (i : ℕ) → i < 65535 → (node_head t i).number ≡ i
+unfolding node_head
 number_own t i h = rw (lt-ltb i 65535 h)

@@ -7,7 +7,7 @@ use mathlib.Core.List.{List}
 use lib.Dec.{T, eqb, eqb→eq}
 use borrow.Author.Tests.{lt-ltb, le-ltb, eq-eqb, ne_eqb}
 use Rattle.tree.specs.Bytes.{role_at, size_at}
-use Rattle.tree.specs.Forest.{none, node, head_at, forest_of}
+use Rattle.tree.specs.Forest.{none, node, node_head, forest_of}
 use Rattle.tree.specs.code.Part.{Part}
 use Rattle.tree.specs.Children.{many, in_pairs}
 use Rattle.tree.specs.code.Find.{child_in, child_of, from_role}
@@ -100,7 +100,7 @@ child_part p r l = later p (child_ge p r l)
 
 -- the link to the forest: its siblings from the first of role r on are those from child_of on
 pub child_forest : {t : List ℕ} {i e : ℕ} → Part t i e → (r : ℕ) → from_role r (forest_of t i e) ≡ forest_of t (child_of t r i e) e
-unfolding from_role head_at
+unfolding from_role node_head
 child_forest {t} p r = seek r (λ i e. from_role r (forest_of t i e) ≡ forest_of t (child_of t r i e) e) t nothing here next p
   where
     nothing : (i e : ℕ) → e ≤ i → from_role r (forest_of t i e) ≡ forest_of t (child_of t r i e) e
@@ -116,7 +116,7 @@ child_forest {t} p r = seek r (λ i e. from_role r (forest_of t i e) ≡ forest_
 -- where there is one, it is the first of those; where there is none, nothing is left
 pub child_node : {t : List ℕ} {i e : ℕ} → Part t i e → (r : ℕ) → i ≤ e → child_of t r i e < e
     → from_role r (forest_of t i e)
-    ≡ node (head_at t (child_of t r i e))
+    ≡ node (node_head t (child_of t r i e))
     (forest_of t (child_of t r i e + 1) (child_of t r i e + size_at t (child_of t r i e)))
     (forest_of t (child_of t r i e + size_at t (child_of t r i e)) e)
 child_node p r l lt = child_forest p r ∙ forest_node (child_part p r l) lt
@@ -127,11 +127,11 @@ child_none {t} {i} {e} p r h = child_forest p r ∙ forest_none t (child_of t r 
 -- how many have the role: node i and the later ones
 module _ {t : List ℕ} {i e : ℕ} (p : Part t i e) (lt : i < e) (r : ℕ) where
   pub many_here : role_at t i ≡ r → many r (forest_of t i e) ≡ suc (many r (forest_of t (i + size_at t i) e))
-  unfolding many head_at
+  unfolding many node_head
   many_here q = rw (forest_node p lt) (simp (eq-eqb _ _ q) (omega arith))
 
   pub many_next : (role_at t i ≡ r → ⊥) → many r (forest_of t i e) ≡ many r (forest_of t (i + size_at t i) e)
-  unfolding many head_at
+  unfolding many node_head
   many_next q = rw (forest_node p lt) (simp (ne_eqb _ _ q) (omega arith))
 
 pub many_end : (t : List ℕ) (i e r : ℕ) → e ≤ i → many r (forest_of t i e) ≡ 0
@@ -155,9 +155,9 @@ child_there {t} p r =
 
 -- in a dict, node i has the role whose turn it is, and the other role's turn comes
 pub pair_here : {t : List ℕ} {i e : ℕ} → Part t i e → i < e → (w : ℕ) → T (in_pairs w (forest_of t i e)) → role_at t i ≡ w
-unfolding in_pairs head_at
+unfolding in_pairs node_head
 pair_here {t} {i} p lt w v = eqb→eq (role_at t i) w (left (eqb (role_at t i) w) _ (rw (forest_node p lt) at v))
 
 pub pair_next : {t : List ℕ} {i e : ℕ} → Part t i e → i < e → (w : ℕ) → T (in_pairs w (forest_of t i e)) → T (in_pairs (12 - w) (forest_of t (i + size_at t i) e))
-unfolding in_pairs head_at
+unfolding in_pairs node_head
 pair_next {t} {i} p lt w v = right (eqb (role_at t i) w) _ (rw (forest_node p lt) at v)

@@ -11,7 +11,7 @@ use Rattle.tree.specs.Bytes.{pick, node_count, size_at, kind_at}
 use Rattle.tree.specs.Nodes.{depth_of, too_deep}
 use Rattle.tree.specs.Children.{root_ok, kids_fit, wrong_children}
 use Rattle.tree.specs.code.Kids.{good7, bad7}
-use Rattle.tree.specs.Forest.{Forest, none, node, head_at, forest_of, tree_of}
+use Rattle.tree.specs.Forest.{Forest, none, node, node_head, forest_of, tree_of}
 use Rattle.tree.specs.code.Part.{Part}
 use Rattle.tree.specs.code.Shape.{count, height, fitting, root_fits, valid}
 use Rattle.tree.specs.code.Sound.{Sound}
@@ -42,7 +42,7 @@ pub kids_fitting : {t : List ℕ} {f : Facts} → Sound t f → (p : ℕ) → p 
 kids_fitting {t} {f} s p l = rw (kids_same t p, good_kids s p l) tt
 
 part_same : {t : List ℕ} {f : Facts} → Sound t f → {i e : ℕ} → Part t i e → e ≤ node_count t → fitting (forest_of t i e) ≡ true
-unfolding fitting head_at
+unfolding fitting node_head
 part_same {t} {f} s p le = induct (λ i e. e ≤ node_count t → fitting (forest_of t i e) ≡ true) t nothing more p le
   where
     nothing : (i e : ℕ) → e ≤ i → e ≤ node_count t → fitting (forest_of t i e) ≡ true
@@ -64,18 +64,18 @@ unfolding tree_of
 tree_fits {t} {f} s = part_same s (whole_part t f s) (omega arith)
 
 -- the tree of a valid file: its root, and what is below
-pub tree_node : {t : List ℕ} {f : Facts} → Sound t f → tree_of t ≡ node (head_at t 0) (forest_of t 1 (node_count t)) none
+pub tree_node : {t : List ℕ} {f : Facts} → Sound t f → tree_of t ≡ node (node_head t 0) (forest_of t 1 (node_count t)) none
 unfolding tree_of
 tree_node {t} {f} s =
     let n = node_count t in
     let a = s.root in
     let z : 0 + size_at t 0 ≡ node_count t = omega arith in
     forest_node (whole_part t f s) s.some_nodes
-    ∙ ap (λ (x : ℕ). node (head_at t 0) (forest_of t 1 x) (forest_of t x (node_count t))) z
-    ∙ ap (λ (x : Forest). node (head_at t 0) (forest_of t 1 (node_count t)) x) (forest_none t (node_count t) (node_count t) (omega arith))
+    ∙ ap (λ (x : ℕ). node (node_head t 0) (forest_of t 1 x) (forest_of t x (node_count t))) z
+    ∙ ap (λ (x : Forest). node (node_head t 0) (forest_of t 1 (node_count t)) x) (forest_none t (node_count t) (node_count t) (omega arith))
 
 root_same : {t : List ℕ} {f : Facts} → Sound t f → root_fits (tree_of t) ≡ true
-unfolding root_fits head_at root_ok
+unfolding root_fits node_head root_ok
 root_same {t} s = rw (tree_node s) (and_right (eqb (size_at t 0) (node_count t)) _ (good_root s))
 
 pub tree_valid : (t : List ℕ) (f : Facts) → judged t ≡ Valid f → T (valid (tree_of t))
@@ -87,7 +87,7 @@ abbrev fit : List ℕ → ℕ → Bool
 fit t j = kids_fit (kind_at t j) (forest_of t (j + 1) (j + size_at t j))
 
 fits_good : {t : List ℕ} {i e : ℕ} → Part t i e → T (fitting (forest_of t i e)) → (j : ℕ) → i ≤ j → j < e → fit t j ≡ true
-unfolding head_at
+unfolding node_head
 fits_good {t} p = induct (λ i e. T (fitting (forest_of t i e)) → (j : ℕ) → i ≤ j → j < e → fit t j ≡ true) t (λ i e h v j a b. absurd (omega arith)) more p
   where
     more : (i e : ℕ) → Part t i e → i < e
@@ -96,18 +96,18 @@ fits_good {t} p = induct (λ i e. T (fitting (forest_of t i e)) → (j : ℕ) �
         → T (fitting (forest_of t i e)) → (j : ℕ) → i ≤ j → j < e → fit t j ≡ true
     more i e p lt f g v j a b = go (dec_lt i j) (dec_lt j (i + size_at t i)) (rw (forest_node p lt) at v)
       where
-        go : Dec (i < j) → Dec (j < i + size_at t i) → T (fitting (node (head_at t i) (forest_of t (i + 1) (i + size_at t i)) (forest_of t (i + size_at t i) e))) → fit t j ≡ true
+        go : Dec (i < j) → Dec (j < i + size_at t i) → T (fitting (node (node_head t i) (forest_of t (i + 1) (i + size_at t i)) (forest_of t (i + size_at t i) e))) → fit t j ≡ true
         go (no x) y v =
             let q : j ≡ i = omega arith in
-            rw q (truth _ (fits_here (head_at t i) (forest_of t (i + 1) (i + size_at t i)) _ v))
-        go (yes x) (yes y) v = f (fits_kids (head_at t i) _ _ v) j (omega arith) y
-        go (yes x) (no y) v = g (fits_rest (head_at t i) _ _ v) j (omega arith) b
+            rw q (truth _ (fits_here (node_head t i) (forest_of t (i + 1) (i + size_at t i)) _ v))
+        go (yes x) (yes y) v = f (fits_kids (node_head t i) _ _ v) j (omega arith) y
+        go (yes x) (no y) v = g (fits_rest (node_head t i) _ _ v) j (omega arith) b
 
 pub valid_seven : (t : List ℕ) → Part t 0 (node_count t) → 1 ≤ node_count t → T (valid (tree_of t)) → (i : ℕ) → i < node_count t → wrong_children t i ≡ false
-unfolding tree_of wrong_children root_ok root_fits head_at
+unfolding tree_of wrong_children root_ok root_fits node_head
 valid_seven t w some v i h = seven (eqb i 0) (fits_good w (valid_fits (forest_of t 0 (node_count t)) v) i (omega arith) h)
   where
-    root : T (root_fits (node (head_at t 0) (forest_of t (0 + 1) (0 + size_at t 0)) (forest_of t (0 + size_at t 0) (node_count t))))
+    root : T (root_fits (node (node_head t 0) (forest_of t (0 + 1) (0 + size_at t 0)) (forest_of t (0 + size_at t 0) (node_count t))))
     root = rw (forest_node w some) at (valid_root (forest_of t 0 (node_count t)) v)
 
     -- the root has no sibling: it reaches to the end

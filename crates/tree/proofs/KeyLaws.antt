@@ -90,23 +90,23 @@ means_same m v w (by_number n e f) = likeness_right (formed_alike v w) (same_num
 
 -- an equivalence, in each mode, on all values
 
-same_sym : (m : Mode) (v w : Value) → Same m v w → Same m w v
-same_sym m v w (by_form e) = by_form (sym e)
-same_sym m v w (by_number n e f) = by_number n f e
+same_values_sym : (m : Mode) (v w : Value) → Same m v w → Same m w v
+same_values_sym m v w (by_form e) = by_form (sym e)
+same_values_sym m v w (by_number n e f) = by_number n f e
 
-same_trans : (m : Mode) (u v w : Value) → Same m u v → Same m v w → Same m u w
-same_trans m u v w (by_form e) s = subst (λ (x : Value). Same m x w) (sym e) s
-same_trans m u v w (by_number n e f) (by_form g) = subst (λ (x : Value). Same m u x) g (by_number n e f)
-same_trans m u v w (by_number n e f) (by_number k g h) = by_number n e (h ∙ (sym g ∙ f))
+same_values_trans : (m : Mode) (u v w : Value) → Same m u v → Same m v w → Same m u w
+same_values_trans m u v w (by_form e) s = subst (λ (x : Value). Same m x w) (sym e) s
+same_values_trans m u v w (by_number n e f) (by_form g) = subst (λ (x : Value). Same m u x) g (by_number n e f)
+same_values_trans m u v w (by_number n e f) (by_number k g h) = by_number n e (h ∙ (sym g ∙ f))
 
 pub same_refl : (m : Mode) (v : Value) → T (same_key m v v)
 same_refl m v = means_same m v v (by_form refl)
 
 pub same_sym : (m : Mode) (v w : Value) → T (same_key m v w) → T (same_key m w v)
-same_sym m v w t = means_same m w v (same_sym m v w (same_means m v w t))
+same_sym m v w t = means_same m w v (same_values_sym m v w (same_means m v w t))
 
 pub same_trans : (m : Mode) (u v w : Value) → T (same_key m u v) → T (same_key m v w) → T (same_key m u w)
-same_trans m u v w s t = means_same m u w (same_trans m u v w (same_means m u v s) (same_means m v w t))
+same_trans m u v w s t = means_same m u w (same_values_trans m u v w (same_means m u v s) (same_means m v w t))
 
 -- one number has one form in each kind
 

@@ -10,7 +10,7 @@ use lib.Dec.{eqb}
 use borrow.Author.Tests.{lt-ltb, le-ltb, eq-eqb, ne_eqb}
 use Rattle.tree.specs.Bytes.{size_at, role_at, kind_at}
 use Rattle.tree.specs.Children.{slot_of, in_class}
-use Rattle.tree.specs.code.Kids.{kids_in, kids_from, Sized, all_stand, of_role, filled, all_filled, paired, for_first}
+use Rattle.tree.specs.code.Kids.{kids_in, kids_from, Sized, kids_stand, of_role, filled, kids_filled, paired, kids_for_first}
 
 kids_none : (k : ℕ) (t : List ℕ) (c e : ℕ) → e ≤ c → kids_in k t c e ≡ []
 unfolding kids_in
@@ -40,12 +40,12 @@ kids_next t c e s h =
     ∙ ap (λ (x : List ℕ). c ∷ x) (kids_enough (e - c) (e - (c + size_at t c)) t (c + size_at t c) e s (omega arith) (omega arith))
 
 module _ (t : List ℕ) (k c e : ℕ) (s : Sized t e) (h : c < e) where
-  pub stand_no : in_class (slot_of k (role_at t c)).class (kind_at t c) ≡ false → all_stand t k (kids_from t c e) ≡ false
-  unfolding all_stand
+  pub stand_no : in_class (slot_of k (role_at t c)).class (kind_at t c) ≡ false → kids_stand t k (kids_from t c e) ≡ false
+  unfolding kids_stand
   stand_no q = rw (kids_next t c e s h) (simp q)
 
-  pub stand_yes : in_class (slot_of k (role_at t c)).class (kind_at t c) ≡ true → all_stand t k (kids_from t (c + size_at t c) e) ≡ all_stand t k (kids_from t c e)
-  unfolding all_stand
+  pub stand_yes : in_class (slot_of k (role_at t c)).class (kind_at t c) ≡ true → kids_stand t k (kids_from t (c + size_at t c) e) ≡ kids_stand t k (kids_from t c e)
+  unfolding kids_stand
   stand_yes q = rw (kids_next t c e s h) (simp q)
 
   pub role_yes : role_at t c ≡ k → of_role t k (kids_from t c e) ≡ 1 + of_role t k (kids_from t (c + size_at t c) e)
@@ -64,17 +64,17 @@ module _ (t : List ℕ) (k c e : ℕ) (s : Sized t e) (h : c < e) where
   unfolding paired
   pair_yes q = rw (kids_next t c e s h) (simp (eq-eqb _ _ q))
 
-  pub for_yes : role_at t c ≡ 0 → for_first t (kids_from t c e) ≡ eqb (kind_at t c) 45
-  unfolding for_first
-  for_yes q = rw (kids_next t c e s h) (rw (eq-eqb _ _ q, for_first))
+  pub for_yes : role_at t c ≡ 0 → kids_for_first t (kids_from t c e) ≡ eqb (kind_at t c) 45
+  unfolding kids_for_first
+  for_yes q = rw (kids_next t c e s h) (rw (eq-eqb _ _ q, kids_for_first))
 
-  pub for_no : (role_at t c ≡ 0 → ⊥) → for_first t (kids_from t (c + size_at t c) e) ≡ for_first t (kids_from t c e)
-  unfolding for_first
-  for_no q = rw (kids_next t c e s h) (rw (ne_eqb _ _ q, for_first))
+  pub for_no : (role_at t c ≡ 0 → ⊥) → kids_for_first t (kids_from t (c + size_at t c) e) ≡ kids_for_first t (kids_from t c e)
+  unfolding kids_for_first
+  for_no q = rw (kids_next t c e s h) (rw (ne_eqb _ _ q, kids_for_first))
 
 module _ (t : List ℕ) (k c e : ℕ) (h : e ≤ c) where
-  pub stand_end : all_stand t k (kids_from t c e) ≡ true
-  unfolding all_stand
+  pub stand_end : kids_stand t k (kids_from t c e) ≡ true
+  unfolding kids_stand
   stand_end = rw (kids_end t c e h)
 
   pub role_end : of_role t k (kids_from t c e) ≡ 0
@@ -85,20 +85,20 @@ module _ (t : List ℕ) (k c e : ℕ) (h : e ≤ c) where
   unfolding paired
   pair_end = rw (kids_end t c e h)
 
-  pub for_end : for_first t (kids_from t c e) ≡ true
-  unfolding for_first
+  pub for_end : kids_for_first t (kids_from t c e) ≡ true
+  unfolding kids_for_first
   for_end = rw (kids_end t c e h)
 
-pub filled_none : (t : List ℕ) (k : ℕ) (cs : List ℕ) → all_filled 0 t k cs ≡ true
-unfolding all_filled
+pub filled_none : (t : List ℕ) (k : ℕ) (cs : List ℕ) → kids_filled 0 t k cs ≡ true
+unfolding kids_filled
 filled_none t k cs = refl
 
-pub filled_more : (r : ℕ) (t : List ℕ) (k : ℕ) (cs : List ℕ) → all_filled r t k cs ≡ true → filled t k cs r ≡ true → all_filled (r + 1) t k cs ≡ true
-unfolding all_filled
+pub filled_more : (r : ℕ) (t : List ℕ) (k : ℕ) (cs : List ℕ) → kids_filled r t k cs ≡ true → filled t k cs r ≡ true → kids_filled (r + 1) t k cs ≡ true
+unfolding kids_filled
 filled_more r t k cs a b = rw add-one (simp (a, b))
 
-pub filled_not : (n : ℕ) (t : List ℕ) (k : ℕ) (cs : List ℕ) (r : ℕ) → r < n → filled t k cs r ≡ false → all_filled n t k cs ≡ false
-unfolding all_filled
+pub filled_not : (n : ℕ) (t : List ℕ) (k : ℕ) (cs : List ℕ) (r : ℕ) → r < n → filled t k cs r ≡ false → kids_filled n t k cs ≡ false
+unfolding kids_filled
 filled_not zero t k cs r h e = absurd (omega arith)
 filled_not (suc n) t k cs r h e = go (dec_lt r n) (λ l. filled_not n t k cs r l e)
   where
@@ -106,6 +106,6 @@ filled_not (suc n) t k cs r h e = go (dec_lt r n) (λ l. filled_not n t k cs r l
     stop true = refl
     stop false = refl
 
-    go : Dec (r < n) → (r < n → all_filled n t k cs ≡ false) → (all_filled n t k cs && filled t k cs n) ≡ false
+    go : Dec (r < n) → (r < n → kids_filled n t k cs ≡ false) → (kids_filled n t k cs && filled t k cs n) ≡ false
     go (yes l) g = rw (g l)
-    go (no l) g = let q : n ≡ r = omega arith in rw q (rw e (stop (all_filled r t k cs)))
+    go (no l) g = let q : n ≡ r = omega arith in rw q (rw e (stop (kids_filled r t k cs)))

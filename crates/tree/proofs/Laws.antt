@@ -6,7 +6,7 @@ use mathlib.Core.Path.{◌≡◌, refl, sym, ap, ap₂, ◌∙◌}
 use mathlib.Core.List.{List}
 use borrow.Author.Tests.{lt-ltb, le-ltb}
 use Rattle.tree.specs.Bytes.{size_at}
-use Rattle.tree.specs.Forest.{Forest, none, node, head_at, forest_in, forest_of}
+use Rattle.tree.specs.Forest.{Forest, none, node, node_head, forest_in, forest_of}
 use Rattle.tree.specs.code.Part.{Part, Subtree}
 use Rattle.tree.specs.code.Shape.{count}
 
@@ -67,9 +67,9 @@ whole_kids w = kids w.part (omega (arith, w.some))
 -- one step with fuel left, from what the two calls below it are
 step : (t : List ℕ) (i e k : ℕ) {a b : Forest} → i < e
     → forest_in k t (i + 1) (i + size_at t i) ≡ a → forest_in k t (i + size_at t i) e ≡ b
-    → forest_in (suc k) t i e ≡ node (head_at t i) a b
+    → forest_in (suc k) t i e ≡ node (node_head t i) a b
 unfolding forest_in
-step t i e k lt p q = rw (lt-ltb i e lt, forest_in) (ap₂ (node (head_at t i)) p q)
+step t i e k lt p q = rw (lt-ltb i e lt, forest_in) (ap₂ (node (node_head t i)) p q)
 
 none_left : (k : ℕ) (t : List ℕ) (i e : ℕ) → e ≤ i → forest_in k t i e ≡ none
 unfolding forest_in
@@ -96,7 +96,7 @@ forest_none t i e h = none_left (e - i) t i e h
 
 -- the first node, its children, its later siblings
 pub forest_node : {t : List ℕ} {i e : ℕ} → Part t i e → i < e
-    → forest_of t i e ≡ node (head_at t i) (forest_of t (i + 1) (i + size_at t i)) (forest_of t (i + size_at t i) e)
+    → forest_of t i e ≡ node (node_head t i) (forest_of t (i + 1) (i + size_at t i)) (forest_of t (i + size_at t i) e)
 unfolding forest_of
 forest_node {t} {i} {e} p lt =
     let s = sized p lt in
@@ -105,10 +105,10 @@ forest_node {t} {i} {e} p lt =
     ∙ step t i e (e - i) lt (enough _ _ (kids p lt) (omega arith) (omega arith)) (enough _ _ (rest p lt) (omega arith) (omega arith))
 
 -- one node with what is below it
-pub forest_one : {t : List ℕ} {i e : ℕ} → Part t i e → i < e → forest_of t i (i + size_at t i) ≡ node (head_at t i) (forest_of t (i + 1) (i + size_at t i)) none
+pub forest_one : {t : List ℕ} {i e : ℕ} → Part t i e → i < e → forest_of t i (i + size_at t i) ≡ node (node_head t i) (forest_of t (i + 1) (i + size_at t i)) none
 forest_one {t} {i} p lt =
     forest_node (first p lt) (omega (arith, sized p lt))
-    ∙ ap (node (head_at t i) (forest_of t (i + 1) (i + size_at t i))) (forest_none t (i + size_at t i) (i + size_at t i) (omega arith))
+    ∙ ap (node (node_head t i) (forest_of t (i + 1) (i + size_at t i))) (forest_none t (i + size_at t i) (i + size_at t i) (omega arith))
 
 -- What holds of nothing, and of a part where it holds below its first node and of what follows, holds of every part.
 pub induct : (Q : ℕ → ℕ → Type 0) (t : List ℕ)

@@ -8,7 +8,7 @@ use mathlib.Core.Logic.{◌⊎◌, inl, inr}
 use lib.Dec.{T}
 use Rattle.tree.specs.Bytes.{node_count, size_at, kind_at, role_at}
 use Rattle.tree.specs.Children.{in_class, Slot, slot_of, all_stand, many, in_pairs, for_first}
-use Rattle.tree.specs.Forest.{head_at, forest_of}
+use Rattle.tree.specs.Forest.{node_head, forest_of}
 use Rattle.tree.specs.code.Part.{Part}
 use Rattle.tree.specs.code.Find.{Row, child_of, kid_of}
 use Rattle.tree.specs.code.Sound.{Sound}
@@ -52,13 +52,13 @@ module _ {t : List ℕ} {f : Facts} (s : Sound t f) {p : ℕ} (l : p < node_coun
   stand_from {c} row =
       row_walk (whole_part t f s) l (λ j. T (all_stand (kind_at t p) (forest_of t j (p + size_at t p)))) kids_row row (omega (arith, row.after))
       (fit_stand (kind_at t p) _ (kids_fitting s p l))
-      (λ j at h a b v. stand_rest (kind_at t p) (head_at t j) _ _ (rw (forest_node (row_part (whole_part t f s) l at) h) at v))
+      (λ j at h a b v. stand_rest (kind_at t p) (node_head t j) _ _ (rw (forest_node (row_part (whole_part t f s) l at) h) at v))
 
   -- a child is of the class that the slot of its role says
   pub kid_class : {c : ℕ} → Row t p c → c < p + size_at t p → T (in_class (slot_of (kind_at t p) (role_at t c)).class (kind_at t c))
-  unfolding head_at
+  unfolding node_head
   kid_class {c} row h =
-      stand_here (kind_at t p) (head_at t c) _ _ (rw (forest_node (row_part (whole_part t f s) l row) h) at (stand_from row))
+      stand_here (kind_at t p) (node_head t c) _ _ (rw (forest_node (row_part (whole_part t f s) l row) h) at (stand_from row))
 
   -- a child's role is below 9
   pub kid_role : {c : ℕ} → Row t p c → c < p + size_at t p → role_at t c < 9
@@ -141,7 +141,7 @@ module _ {t : List ℕ} {f : Facts} (s : Sound t f) {p : ℕ} (l : p < node_coun
 
   -- a comprehension's first clause is a for
   pub kid_for : (kind_at t p ≡ 25) ⊎ (kind_at t p ≡ 26) → kid_of t 0 p < p + size_at t p → kind_at t (kid_of t 0 p) ≡ 45
-  unfolding head_at
+  unfolding node_head
   kid_for k h = first_for _ (go k) (child_node kids_part 0 (omega (arith, kids_row.within)) h)
     where
       go : (kind_at t p ≡ 25) ⊎ (kind_at t p ≡ 26) → T (for_first (forest_of t (p + 1) (p + size_at t p)))

@@ -124,15 +124,15 @@ module _ (t u : List ℕ) (s : Twins t u) where
   unfolding limit_of
   limit n i = rw (size 0, parent i, size (parent_of u i))
 
-  depth_in : (k i : ℕ) → depth_in k t i ≡ depth_in k u i
+  depths_agree : (k i : ℕ) → depth_in k t i ≡ depth_in k u i
   unfolding depth_in
-  depth_in zero i = refl
-  depth_in (suc k) i =
-      ap (λ (r : ℕ). elim (eqb i 0) as (λ x. ℕ) [ true ↦ 1 | false ↦ r + 1 ]) (ap (λ (p : ℕ). depth_in k t p) (parent i) ∙ depth_in k (parent_of u i))
+  depths_agree zero i = refl
+  depths_agree (suc k) i =
+      ap (λ (r : ℕ). elim (eqb i 0) as (λ x. ℕ) [ true ↦ 1 | false ↦ r + 1 ]) (ap (λ (p : ℕ). depth_in k t p) (parent i) ∙ depths_agree k (parent_of u i))
 
   deep_same : (i : ℕ) → too_deep t i ≡ too_deep u i
   unfolding too_deep depth_of
-  deep_same i = rw (depth_in i i)
+  deep_same i = rw (depths_agree i i)
 
   node_same : (i : ℕ) → wrong_node t i ≡ wrong_node u i
   unfolding wrong_node

@@ -20,16 +20,16 @@ pub data Forest : Type 0 where
   none : Forest
   node : Head → Forest → Forest → Forest
 
-unfoldable pub spot_at : List ℕ → ℕ → Spot
-spot_at t i = record { begin = begin_at t i; end = end_at t i; value = value_at t i }
+unfoldable pub node_spot : List ℕ → ℕ → Spot
+node_spot t i = record { begin = begin_at t i; end = end_at t i; value = value_at t i }
 
 -- node i's number, as a record has it (02, §4). 65535 stands for none; so does every number from there on, which no file's node has: each
 -- number then fits a word of a record, and no walk has to carry a bound.
 abbrev pub number_at : ℕ → ℕ
 number_at i = pick (ltb i 65535) i 65535
 
-unfoldable pub head_at : List ℕ → ℕ → Head
-head_at t i = record { kind = kind_at t i; role = role_at t i; spot = spot_at t i; number = number_at i }
+unfoldable pub node_head : List ℕ → ℕ → Head
+node_head t i = record { kind = kind_at t i; role = role_at t i; spot = node_spot t i; number = number_at i }
 
 -- The nodes from i up to e, as siblings with what is below them. The first argument is at least how many they are:
 -- forest-node and forest-none of proofs/Laws say what this is without it.
@@ -37,7 +37,7 @@ unfoldable pub forest_in : ℕ → List ℕ → ℕ → ℕ → Forest
 forest_in zero t i e = none
 forest_in (suc k) t i e =
     elim (ltb i e) [
-      | true ↦ node (head_at t i) (forest_in k t (i + 1) (i + size_at t i)) (forest_in k t (i + size_at t i) e)
+      | true ↦ node (node_head t i) (forest_in k t (i + 1) (i + size_at t i)) (forest_in k t (i + size_at t i) e)
       | false ↦ none
     ]
 

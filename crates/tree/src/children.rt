@@ -5,7 +5,7 @@ ghost use Rattle.tree.specs.Search.{lowest};
 ghost use Rattle.tree.specs.code.Find.{child_of};
 ghost use Rattle.tree.specs.code.Packed.{digit_of, Fills};
 ghost use Rattle.tree.specs.Children.{class_of, in_class, slot_of, root_ok};
-ghost use Rattle.tree.specs.code.Kids.{kids_from, all_stand, of_role, all_filled, paired, for_first, in_order, good7, bad7, Sized};
+ghost use Rattle.tree.specs.code.Kids.{kids_from, kids_stand, of_role, kids_filled, paired, kids_for_first, kids_in_order, good7, bad7, Sized};
 ghost use Rattle.tree.specs.code.Stages.{None6};
 
 use crate::bytes::{kind_at, role_at, size_at, widen};
@@ -145,7 +145,7 @@ fn stands(c: usize, k: usize) -> bool
 
 fn all_stand(t: &[u8], k: usize, from: usize, e: usize) -> bool
     requires { (e ≤ 1024) × Sized t.now e }
-    ensures { result ≡ all_stand t.now k (kids_from t.now from e) }
+    ensures { result ≡ kids_stand t.now k (kids_from t.now from e) }
 {
     let mut c = from;
     while c < e {
@@ -190,8 +190,8 @@ fn role_filled(t: &[u8], d: usize, r: usize, from: usize, e: usize) -> bool
 
 // Digit by digit while any is left of the kind's row.
 fn all_filled(t: &[u8], k: usize, from: usize, e: usize) -> bool
-    requires { (e ≤ 1024) × Sized t.now e × (all_stand t.now k (kids_from t.now from e) ≡ true) }
-    ensures { result ≡ all_filled 9 t.now k (kids_from t.now from e) }
+    requires { (e ≤ 1024) × Sized t.now e × (kids_stand t.now k (kids_from t.now from e) ≡ true) }
+    ensures { result ≡ kids_filled 9 t.now k (kids_from t.now from e) }
 {
     if 48 <= k {
         return true;
@@ -227,7 +227,7 @@ fn all_paired(t: &[u8], from: usize, e: usize) -> bool
 
 fn for_first(t: &[u8], from: usize, e: usize) -> bool
     requires { (e ≤ 1024) × Sized t.now e }
-    ensures { result ≡ for_first t.now (kids_from t.now from e) }
+    ensures { result ≡ kids_for_first t.now (kids_from t.now from e) }
 {
     let mut c = from;
     while c < e {
@@ -241,7 +241,7 @@ fn for_first(t: &[u8], from: usize, e: usize) -> bool
 
 fn kids_ordered(t: &[u8], k: usize, from: usize, e: usize) -> bool
     requires { (e ≤ 1024) × Sized t.now e }
-    ensures { result ≡ in_order t.now k (kids_from t.now from e) }
+    ensures { result ≡ kids_in_order t.now k (kids_from t.now from e) }
 {
     if k == 29 {
         return all_paired(t, from, e);

@@ -1,5 +1,5 @@
 use mathlib.Core.Path.{◌∙◌}
-use Rattle.tree.specs.Forest.{spot_at}
+use Rattle.tree.specs.Forest.{node_spot}
 use Rattle.answer.specs.Note.{span_of}
 use borrow.Author.Rules.{rules}
 use Rattle.answer.proofs.ends_of.Goals as goal
@@ -9,7 +9,7 @@ unfolding span_of
 returns-in-Nowhere c = rw c.in-Nowhere.is
 
 pub returns-in-Node : goal.returns-in-Node
-unfolding span_of spot_at
+unfolding span_of node_spot
 returns-in-Node c = rw (c.in-Node.is, c.word.ensures, c.begin_at.ensures.0, c.word-in-Node.ensures, c.end_at.ensures.0)
 
 pub returns-in-Reason : goal.returns-in-Reason

@@ -1,5 +1,5 @@
 use mathlib.Core.Path.{◌∙◌}
-use Rattle.tree.specs.Forest.{spot_at}
+use Rattle.tree.specs.Forest.{node_spot}
 use Rattle.answer.specs.Note.{value_of}
 use borrow.Author.Rules.{rules}
 use Rattle.answer.proofs.value_of.Reads as reads
@@ -12,7 +12,7 @@ unfolding value_of
 returns-in-Nowhere c = rw c.in-Nowhere.is
 
 pub returns-in-Node : goal.returns-in-Node
-unfolding value_of spot_at
+unfolding value_of node_spot
 returns-in-Node c = rw c.in-Node.is (c.word.ensures ∙ c.value_at.ensures.0)
 
 pub returns-in-Reason : goal.returns-in-Reason

@@ -1,4 +1,4 @@
-use Rattle.tree.specs.Forest.{head_at}
+use Rattle.tree.specs.Forest.{node_head}
 use mathlib.Core.Path.{sym, ◌∙◌}
 use Rattle.answer.specs.Page.{page}
 use Rattle.answer.specs.Note.{rec_of, span_of, value_of, node_of}
@@ -12,7 +12,7 @@ use Rattle.dubious.proofs.to_key.Reads as to-key-reads
 use Rattle.dubious.proofs.clash.Goals as goal
 
 pub returns-then-old-j : goal.returns-then-old-j
-unfolding head_at rec_of span_of value_of node_of
+unfolding node_head rec_of span_of value_of node_of
 returns-then-old-j c =
     clash_put c.args.numbers.now c.args.t.now c.args.i c.args.j (page c.args.out.now c.args.s) c.previous-old.result c.previous-old.ensures c.if-old-j.true (sym c.to_key.ensures ∙ c.if-to_key.true) (rw c.likeness.ensures at c.put.ensures)
 

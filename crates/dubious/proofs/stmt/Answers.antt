@@ -1,4 +1,4 @@
-use Rattle.tree.specs.Forest.{head_at}
+use Rattle.tree.specs.Forest.{node_head}
 use native.Mathlib.Omega.{arith}
 use mathlib.Core.Path.{sym, ap, ◌∙◌}
 use Prim.Native.Nat.{ℕ, ◌+◌}
@@ -32,6 +32,6 @@ returns-then-kind_at-ne20 c =
     idle_other c.args.t.now c.args.i (c.args.i + c.size_at.result) c.child_of-j.result c.requires (page c.args.out.now c.args.s) (ap (λ (x : ℕ). c.args.i + x) c.size_at.ensures.0) c.child_of-j.ensures c.if-e-j.false (λ z. c.if-kind_at-ne20.true (c.kind_at-2.ensures.0 ∙ z))
 
 pub returns : goal.returns
-unfolding head_at rec_of span_of value_of node_of
+unfolding node_head rec_of span_of value_of node_of
 returns c =
     idle_put c.args.t.now c.args.i (c.args.i + c.size_at.result) c.child_of-j.result c.requires (page c.args.out.now c.args.s) (ap (λ (x : ℕ). c.args.i + x) c.size_at.ensures.0) c.child_of-j.ensures (sym c.kind_at.ensures.0 ∙ c.if-kind_at-ne5.false) c.if-e-j.false (sym c.kind_at-2.ensures.0 ∙ c.if-kind_at-ne20.false) c.put.ensures

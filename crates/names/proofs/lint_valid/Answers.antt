@@ -17,8 +17,7 @@ pub slice_bounds-lint-end-2 : goal.slice_bounds-lint-end-2
 slice_bounds-lint-end-2 c = sym (length-take-le work_words c.args.work.now c.if-work-lt-WORK_WORDS.false)
 
 pub lint-requires : goal.lint-requires
-lint-requires c =
-    (
+lint-requires c = (
   file_ready c.args.t.now c.args.f c.requires (λ k. omega (arith, c.shared_slice_known-1.given k)),
   omega (arith, length-take-le work_words c.args.work.now c.if-work-lt-WORK_WORDS.false),
 )

@@ -4,7 +4,7 @@ use Prim.Native.Nat.{◌+◌, ◌*◌, ◌-◌, ◌≤◌, ℕ, ◌<◌}
 use mathlib.Core.Path.{◌≡◌, refl, sym, ap, ◌∙◌}
 use mathlib.Core.List.{[]}
 use Rattle.tree.specs.Bytes.{size_at}
-use Rattle.tree.specs.Forest.{head_at, forest_of}
+use Rattle.tree.specs.Forest.{node_head, forest_of}
 use Rattle.tree.specs.code.Part.{Part}
 use Rattle.tree.proofs.Laws.{rest, sized, ended, whole_at, whole_kids}
 use Rattle.answer.specs.Page.{untallied}

@@ -1,5 +1,5 @@
 use mathlib.Core.Path.{sym, ap, ◌∙◌}
-use Rattle.tree.specs.Forest.{head_at, spot_at}
+use Rattle.tree.specs.Forest.{node_head, node_spot}
 use Rattle.answer.specs.Note.{rec_of, span_of, value_of, node_of}
 use Rattle.answer.specs.Page.{writes}
 use Rattle.answer.proofs.Laws.{writes_none, writes_one}
@@ -13,7 +13,7 @@ returns-then-j-first c =
     sym (writes_none _) ∙ ap (writes _) (sym (again_none a.t.now c.first_named-first.result a.i a.j c.first_named-first.ensures c.if-j-first.true))
 
 pub returns : goal.returns
-unfolding head_at spot_at rec_of span_of value_of node_of
+unfolding node_head node_spot rec_of span_of value_of node_of
 returns c =
     let a = c.args in
     c.store.ensures ∙ sym (writes_one _ _) ∙ ap (writes _) (sym (again_some a.t.now c.first_named-first.result a.i a.j c.first_named-first.ensures c.if-j-first.false))

@@ -20,9 +20,9 @@ unfoldable pub kids_of : List ℕ → ℕ → List ℕ
 kids_of t p = kids_from t (p + 1) (p + size_at t p)
 
 -- each child of a node of kind k stands in the slot of its role
-unfoldable pub all_stand : List ℕ → ℕ → List ℕ → Bool
-all_stand t k [] = true
-all_stand t k (c ∷ cs) = in_class (slot_of k (role_at t c)).class (kind_at t c) && all_stand t k cs
+unfoldable pub kids_stand : List ℕ → ℕ → List ℕ → Bool
+kids_stand t k [] = true
+kids_stand t k (c ∷ cs) = in_class (slot_of k (role_at t c)).class (kind_at t c) && kids_stand t k cs
 
 -- how many have role r
 unfoldable pub of_role : List ℕ → ℕ → List ℕ → ℕ
@@ -33,9 +33,9 @@ abbrev pub filled : List ℕ → ℕ → List ℕ → ℕ → Bool
 filled t k cs r = leb (slot_of k r).least (of_role t r cs) && leb (of_role t r cs) (slot_of k r).most
 
 -- of each role below the number given, as many as the slot says (roles go from 0 to 8)
-unfoldable pub all_filled : ℕ → List ℕ → ℕ → List ℕ → Bool
-all_filled zero t k cs = true
-all_filled (suc r) t k cs = all_filled r t k cs && filled t k cs r
+unfoldable pub kids_filled : ℕ → List ℕ → ℕ → List ℕ → Bool
+kids_filled zero t k cs = true
+kids_filled (suc r) t k cs = kids_filled r t k cs && filled t k cs r
 
 -- key, role 8, and value, role 4, in turn; w is whose turn it is
 unfoldable pub paired : List ℕ → ℕ → List ℕ → Bool
@@ -43,17 +43,17 @@ paired t w [] = eqb w 8
 paired t w (c ∷ cs) = eqb (role_at t c) w && paired t (12 - w) cs
 
 -- the first clause is a for
-unfoldable pub for_first : List ℕ → List ℕ → Bool
-for_first t [] = true
-for_first t (c ∷ cs) = elim (eqb (role_at t c) 0) [ true ↦ eqb (kind_at t c) 45 | false ↦ for_first t cs ]
+unfoldable pub kids_for_first : List ℕ → List ℕ → Bool
+kids_for_first t [] = true
+kids_for_first t (c ∷ cs) = elim (eqb (role_at t c) 0) [ true ↦ eqb (kind_at t c) 45 | false ↦ kids_for_first t cs ]
 
-unfoldable pub in_order : List ℕ → ℕ → List ℕ → Bool
-in_order t k cs = pick (eqb k 29) (paired t 8 cs) (pick (eqb k 25) (for_first t cs) (pick (eqb k 26) (for_first t cs) true))
+unfoldable pub kids_in_order : List ℕ → ℕ → List ℕ → Bool
+kids_in_order t k cs = pick (eqb k 29) (paired t 8 cs) (pick (eqb k 25) (kids_for_first t cs) (pick (eqb k 26) (kids_for_first t cs) true))
 
 unfoldable pub good7 : List ℕ → ℕ → Bool
 good7 t p =
-    all_stand t (kind_at t p) (kids_of t p)
-    && (all_filled 9 t (kind_at t p) (kids_of t p) && in_order t (kind_at t p) (kids_of t p))
+    kids_stand t (kind_at t p) (kids_of t p)
+    && (kids_filled 9 t (kind_at t p) (kids_of t p) && kids_in_order t (kind_at t p) (kids_of t p))
 
 -- 7: node i
 unfoldable pub bad7 : List ℕ → ℕ → ℕ → Bool

@@ -2,7 +2,7 @@
 -- shows by one computed test that it says what `slots` says. Assumes nothing.
 use Rattle.std.specs.Prelude.{ℕ, ◌/◌, ◌%◌, ◌^◌, List, [], ◌∷◌, Bool, true, ◌&&◌, ◌≡◌, get_or, ltb}
 use Rattle.tree.specs.Bytes.{pick}
-use Rattle.tree.specs.code.Kids.{all_stand, filled}
+use Rattle.tree.specs.code.Kids.{kids_stand, filled}
 
 unfoldable pub rows : List ℕ
 rows = 0x000000000 ∷ 0x000000000 ∷ 0x000000000 ∷ 0x000000000 ∷ 0x000040000 ∷ 0x000030000 ∷ 0x000734000 ∷ 0x000730000 ∷ 0x000000002 ∷ 0x000030010 ∷ 0x000030110 ∷ 0x000730010 ∷ 0x00b004019 ∷ 0x00000000c ∷ 0x000000000 ∷ 0x000000000 ∷ 0x000000000 ∷ 0x000000000 ∷ 0x000000000 ∷ 0x000000000 ∷ 0x000000000 ∷ 0x000000000 ∷ 0x000000000 ∷ 0x030000005 ∷ 0x000000039 ∷ 0x00003000a ∷ 0x30003000a ∷ 0x000000005 ∷ 0x000000005 ∷ 0x500050000 ∷ 0x000000006 ∷ 0x000000330 ∷ 0x000000330 ∷ 0x000000005 ∷ 0x000000000 ∷ 0x000000000 ∷ 0x000000000 ∷ 0x000000000 ∷ 0x000000000 ∷ 0x000000000 ∷ 0x000000000 ∷ 0x000000008 ∷ 0x000000005 ∷ 0x000000005 ∷ 0x000000005 ∷ 0x000730000 ∷ 0x000030000 ∷ 0x000000000 ∷ []
@@ -13,4 +13,4 @@ digit_of k r = pick (ltb k 48 && ltb r 9) (get_or rows k 0 / 16 ^ r % 16) 0
 
 -- of children that stand, x says whether those of role r are as many as they must be, for each kind whose number there is d
 abbrev pub Fills : List ℕ → ℕ → ℕ → List ℕ → Bool → Type 0
-Fills t d r cs x = (k : ℕ) → digit_of k r ≡ d → all_stand t k cs ≡ true → x ≡ filled t k cs r
+Fills t d r cs x = (k : ℕ) → digit_of k r ≡ d → kids_stand t k cs ≡ true → x ≡ filled t k cs r

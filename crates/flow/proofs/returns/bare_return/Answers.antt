@@ -1,6 +1,6 @@
 use Prim.Native.Nat.{◌-◌}
 use mathlib.Core.Path.{sym, ◌∙◌}
-use Rattle.tree.specs.Forest.{head_at, spot_at}
+use Rattle.tree.specs.Forest.{node_head, node_spot}
 use Rattle.answer.specs.Page.{page}
 use Rattle.answer.specs.Note.{rec_of, span_of, value_of, node_of}
 use Rattle.flow.proofs.ReturnsLaws.{bare_no, bare_valued, bare_put}
@@ -16,6 +16,6 @@ returns-then-is_valued c =
     bare_valued c.args.t.now c.args.j _ _ _ (page c.args.out.now c.args.s) (sym c.kind_at.ensures.0 ∙ c.if-kind_at-ne4.false) (sym c.is_valued.ensures ∙ c.if-is_valued.true)
 
 pub returns : goal.returns
-unfolding rec_of span_of value_of node_of head_at
+unfolding rec_of span_of value_of node_of node_head
 returns c =
-    bare_put c.args.t.now c.args.j (head_at c.args.t.now c.args.i) (spot_at c.args.t.now c.args.name) (head_at c.args.t.now c.args.why) (page c.args.out.now c.args.s) (sym c.kind_at.ensures.0 ∙ c.if-kind_at-ne4.false) (sym c.is_valued.ensures ∙ c.if-is_valued.false) c.put.ensures
+    bare_put c.args.t.now c.args.j (node_head c.args.t.now c.args.i) (node_spot c.args.t.now c.args.name) (node_head c.args.t.now c.args.why) (page c.args.out.now c.args.s) (sym c.kind_at.ensures.0 ∙ c.if-kind_at-ne4.false) (sym c.is_valued.ensures ∙ c.if-is_valued.false) c.put.ensures

@@ -1,6 +1,6 @@
 use native.Mathlib.Omega.{arith}
 use Prim.Native.Nat.{◌-◌}
-use Rattle.tree.specs.Forest.{forest_of, head_at, spot_at}
+use Rattle.tree.specs.Forest.{forest_of, node_head, node_spot}
 use Rattle.tree.proofs.Laws.{sized}
 use Rattle.rules.specs.Flow.{everything, returns as returns-in, bare_recs}
 use Rattle.answer.proofs.Flat.{Going, going, going_on, gone_end}
@@ -23,7 +23,7 @@ loop-j-smaller c =
 
 pub loop-j-preserved : goal.loop-j-preserved
 loop-j-preserved c =
-    (tidy_later c.loop-j.invariant.0 (omega (arith, c.next-j.ensures)), going_on c.loop-j.invariant.1 _ _ _ _ c.bare_return-r.ensures (bare_next (head_at c.args.t.now c.args.i) (spot_at c.args.t.now c.args.name) (head_at c.args.t.now c.args.why) c.loop-j.invariant.0 c.loop-j-test.true _ c.next-j.ensures))
+    (tidy_later c.loop-j.invariant.0 (omega (arith, c.next-j.ensures)), going_on c.loop-j.invariant.1 _ _ _ _ c.bare_return-r.ensures (bare_next (node_head c.args.t.now c.args.i) (node_spot c.args.t.now c.args.name) (node_head c.args.t.now c.args.why) c.loop-j.invariant.0 c.loop-j-test.true _ c.next-j.ensures))
 
 pub shape_of-out : goal.shape_of-out
 shape_of-out c = c.loop-j.invariant.1.long

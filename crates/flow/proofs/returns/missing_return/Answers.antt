@@ -1,7 +1,7 @@
 use Rattle.tree.proofs.Laws.{whole_kids}
 use Prim.Native.Nat.{◌-◌}
 use mathlib.Core.Path.{sym, ◌∙◌}
-use Rattle.tree.specs.Forest.{head_at}
+use Rattle.tree.specs.Forest.{node_head}
 use Rattle.answer.specs.Page.{page}
 use Rattle.answer.specs.Note.{rec_of, span_of, value_of, node_of}
 use Rattle.flow.proofs.ReturnsLaws.{unless_so, unless_put}
@@ -16,6 +16,6 @@ returns-then-final_return c =
     unless_so _ _ (page c.args.out.now c.args.s) (sym (rw c.size_at.ensures.0 at c.final_return.ensures) ∙ c.if-final_return.true)
 
 pub returns : goal.returns
-unfolding rec_of span_of value_of node_of head_at
+unfolding rec_of span_of value_of node_of node_head
 returns c =
     unless_put _ _ (page c.args.out.now c.args.s) (sym (rw c.size_at.ensures.0 at c.final_return.ensures) ∙ c.if-final_return.false) c.put.ensures

@@ -3,7 +3,7 @@ use borrow.Author.Rules.{rules}
 use Prim.Native.Nat.{◌-◌}
 use Rattle.tree.specs.Bytes.{size_at}
 use Rattle.tree.specs.code.Part.{Part}
-use Rattle.tree.specs.Forest.{head_at, forest_of}
+use Rattle.tree.specs.Forest.{node_head, forest_of}
 use Rattle.rules.specs.Incompatible.{defined_names}
 use Rattle.incompatible.specs.Ground.{Low}
 use Rattle.incompatible.specs.Ledger.{is_several}
@@ -26,13 +26,13 @@ below_next-j-requires c = omega (arith, c.loop-j.invariant.0.few, c.loop-j-test.
 
 pub loop-j-smaller : goal.loop-j-smaller
 loop-j-smaller c =
-    let g = going_part (is_several (head_at c.args.t.now c.loop-j.j)) c.loop-j.invariant.0 c.loop-j-test.true in
+    let g = going_part (is_several (node_head c.args.t.now c.loop-j.j)) c.loop-j.invariant.0 c.loop-j-test.true in
     omega (arith, g.1, g.2, c.below_next-j.ensures, c.loop-j-test.true)
 
 pub loop-j-preserved : goal.loop-j-preserved
 loop-j-preserved c =
     rw c.below_next-j.ensures (
-      (going_part (is_several (head_at c.args.t.now c.loop-j.j)) c.loop-j.invariant.0 c.loop-j-test.true).0,
+      (going_part (is_several (node_head c.args.t.now c.loop-j.j)) c.loop-j.invariant.0 c.loop-j-test.true).0,
       c.loop-j.invariant.1,
       telling_on c.loop-j.invariant.2 _ _ _ _ c.below_at-r.ensures (below_step c.loop-j.invariant.0 c.loop-j-test.true),
     )

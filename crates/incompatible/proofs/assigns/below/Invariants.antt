@@ -3,7 +3,7 @@ use borrow.Author.Rules.{rules}
 use Prim.Native.Nat.{◌-◌}
 use Rattle.tree.specs.Bytes.{size_at}
 use Rattle.tree.specs.code.Part.{Part}
-use Rattle.tree.specs.Forest.{head_at, forest_of}
+use Rattle.tree.specs.Forest.{node_head, forest_of}
 use Rattle.rules.specs.Incompatible.{defined_names}
 use Rattle.incompatible.specs.Ground.{Low}
 use Rattle.incompatible.specs.Ledger.{is_several}

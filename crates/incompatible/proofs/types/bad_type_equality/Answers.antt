@@ -27,8 +27,7 @@ pub loop-i-smaller : goal.loop-i-smaller
 loop-i-smaller c = omega (arith, c.loop-i-test.true)
 
 pub loop-i-preserved : goal.loop-i-preserved
-loop-i-preserved c =
-    (
+loop-i-preserved c = (
   later c.loop-i.invariant.0 (omega arith),
   going_on c.loop-i.invariant.1 _ _ _ _ c.match_bad_type_equality-r.ensures (each_next (check_at (is c.args.names.call) (five c.args.names)) c.loop-i.invariant.0 c.loop-i-test.true),
 )

@@ -1,4 +1,4 @@
-use Rattle.tree.specs.Forest.{head_at}
+use Rattle.tree.specs.Forest.{node_head}
 use native.Mathlib.Omega.{arith}
 use Prim.Native.Nat.{ℕ, ◌+◌}
 use mathlib.Core.Path.{sym, ap, ◌∙◌}
@@ -28,7 +28,7 @@ lookup_type-requires c =
     rw c.size_at.ensures.0 (kids c.requires.part (omega (arith, c.requires.some)), omega (arith, c.requires.some))
 
 pub returns-then-lookup_type : goal.returns-then-lookup_type
-unfolding head_at rec_of span_of value_of node_of
+unfolding node_head rec_of span_of value_of node_of
 returns-then-lookup_type c =
     check_put c.args.names c.args.t.now c.args.i (page c.args.out.now c.args.s) (ap (λ (x : ℕ). c.args.i + x) c.size_at.ensures.0) c.child_of.ensures c.requires
     (sym c.if-compares.true ∙ c.compares.ensures ∙ ap (λ (k : ℕ). eqb 31 k || eqb 32 k) c.kind_at.ensures.0) (sym c.if-is_type_call.true ∙ c.is_type_call.ensures) (sym c.if-lookup_type.true ∙ c.lookup_type.ensures) c.put.ensures

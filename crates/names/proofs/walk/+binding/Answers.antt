@@ -10,7 +10,7 @@ use Rattle.tree.specs.Bytes.{pick, size_at, role_at}
 use Rattle.tree.specs.code.Part.{Part}
 use Rattle.tree.proofs.Laws.{rest, sized, ended}
 use Rattle.scope.specs.State.{Fits}
-use Rattle.names.specs.Walk.{Goes, names_in, bind_of, use_of}
+use Rattle.names.specs.Walk.{Goes, names_in, node_bind, node_use}
 use Rattle.scope.specs.declared.Scope.{Scope}
 use Rattle.names.proofs.Going.{skips, goes_as, goes_fits}
 use Rattle.names.proofs.Parts.{node_in_part, node_few, name_several, name_name, name_other}

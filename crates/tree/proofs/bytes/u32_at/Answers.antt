@@ -7,3 +7,7 @@ use Rattle.tree.proofs.bytes.u32_at.Goals as goal
 
 pub returns-then-s-at : goal.returns-then-s-at
 returns-then-s-at c = (sym (u32_past c.args.s.now c.args.at c.if-s-at.true), search rules)
+
+pub returns : goal.returns
+unfolding u32_at
+returns c = search rules

@@ -5,7 +5,7 @@ use native.Mathlib.Omega.{arith}
 use mathlib.Core.Path.{◌≡◌, sym, ◌∙◌}
 use mathlib.Core.Bool.{true}
 use lib.ListN.{get_or}
-use Rattle.tree.specs.code.Kids.{kids_from, all_filled, filled}
+use Rattle.tree.specs.code.Kids.{kids_from, kids_filled, filled}
 use Rattle.tree.specs.code.Packed.{rows}
 use Rattle.tree.proofs.Kids.{filled_none, filled_more, filled_not}
 use Rattle.tree.proofs.Slots.{cut, cut_none, cut_more, cut_here, digit_small}
@@ -30,7 +30,7 @@ pub returns-then-not-role_filled : goal.returns-then-not-role_filled
 returns-then-not-role_filled c =
     let h = cut_here c.args.k c.loop-row.r c.loop-row.row (omega arith) c.loop-row.invariant.0 c.loop-row.invariant.1 c.loop-row-test.true in
     let f : c.role_filled.result ≡ filled c.args.t.now c.args.k (kids_from c.args.t.now c.args.from c.args.e) c.loop-row.r = c.role_filled.ensures c.args.k h.1 c.requires.2 in
-    sym (filled_not 9 c.args.t.now c.args.k (kids_from c.args.t.now c.args.from c.args.e) c.loop-row.r h.0 (sym f ∙ not-true c.role_filled.result c.if-not-role_filled.true))
+    sym (filled_not 9 c.args.t.now c.args.k (kids_from c.args.t.now c.args.from c.args.e) c.loop-row.r h.0 (sym f ∙ c.if-not-role_filled.true))
 
 pub loop-row-smaller : goal.loop-row-smaller
 loop-row-smaller c =
@@ -40,7 +40,7 @@ pub loop-row-preserved : goal.loop-row-preserved
 loop-row-preserved c =
     let h = cut_here c.args.k c.loop-row.r c.loop-row.row (omega arith) c.loop-row.invariant.0 c.loop-row.invariant.1 c.loop-row-test.true in
     let f : c.role_filled.result ≡ filled c.args.t.now c.args.k (kids_from c.args.t.now c.args.from c.args.e) c.loop-row.r = c.role_filled.ensures c.args.k h.1 c.requires.2 in
-    (omega arith, rw c.loop-row.invariant.1 (cut_more _ c.loop-row.r), filled_more c.loop-row.r c.args.t.now c.args.k (kids_from c.args.t.now c.args.from c.args.e) c.loop-row.invariant.2 (sym f ∙ not-false c.role_filled.result c.if-not-role_filled.false))
+    (omega arith, rw c.loop-row.invariant.1 (cut_more _ c.loop-row.r), filled_more c.loop-row.r c.args.t.now c.args.k (kids_from c.args.t.now c.args.from c.args.e) c.loop-row.invariant.2 (sym f ∙ c.if-not-role_filled.false))
 
 pub returns : goal.returns
 returns c =

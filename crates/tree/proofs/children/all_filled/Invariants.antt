@@ -5,7 +5,7 @@ use native.Mathlib.Omega.{arith}
 use mathlib.Core.Path.{◌≡◌, sym, ◌∙◌}
 use mathlib.Core.Bool.{true}
 use lib.ListN.{get_or}
-use Rattle.tree.specs.code.Kids.{kids_from, all_filled, filled}
+use Rattle.tree.specs.code.Kids.{kids_from, kids_filled, filled}
 use Rattle.tree.specs.code.Packed.{rows}
 use Rattle.tree.proofs.Kids.{filled_none, filled_more, filled_not}
 use Rattle.tree.proofs.Slots.{cut, cut_none, cut_more, cut_here, digit_small}
@@ -13,7 +13,7 @@ use Rattle.tree.proofs.Filled.{filled_far, filled_rest}
 use Rattle.tree.proofs.children.all_filled.Given as goal
 
 abbrev pub invariant-loop-row : goal.invariant-loop-row
-invariant-loop-row l = (l.r ≤ 9) × (l.row ≡ cut (get_or rows l.k 0) l.r) × (all_filled l.r l.t l.k (kids_from l.t l.from l.e) ≡ true)
+invariant-loop-row l = (l.r ≤ 9) × (l.row ≡ cut (get_or rows l.k 0) l.r) × (kids_filled l.r l.t l.k (kids_from l.t l.from l.e) ≡ true)
 
 abbrev pub decreases-loop-row : goal.decreases-loop-row
 decreases-loop-row l = 9 - l.r

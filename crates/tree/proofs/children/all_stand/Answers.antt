@@ -5,7 +5,7 @@ use native.Mathlib.Omega.{arith}
 use mathlib.Core.Path.{◌≡◌, refl, sym, ◌∙◌}
 use Rattle.tree.specs.Bytes.{kind_at, role_at}
 use Rattle.tree.specs.Children.{in_class, slot_of}
-use Rattle.tree.specs.code.Kids.{kids_from, all_stand}
+use Rattle.tree.specs.code.Kids.{kids_from, kids_stand}
 use Rattle.tree.proofs.Kids.{stand_yes, stand_no, stand_end}
 use Rattle.tree.proofs.children.all_stand.Goals as goal
 
@@ -15,7 +15,7 @@ loop-c-init c = refl
 pub returns-then-not-stands : goal.returns-then-not-stands
 returns-then-not-stands c =
     let g : c.stands.result ≡ in_class (slot_of (c.args.k) (role_at (c.args.t.now) c.loop-c.c)).class (kind_at (c.args.t.now) c.loop-c.c) = c.stands.ensures ∙ (cc (c.slot_class.ensures, c.kind_at.ensures.0, c.role_at.ensures.0)) in
-    sym (stand_no (c.args.t.now) (c.args.k) c.loop-c.c (c.args.e) c.requires.1 (omega arith) (sym g ∙ not-true c.stands.result c.if-not-stands.true)) ∙ c.loop-c.invariant
+    sym (stand_no (c.args.t.now) (c.args.k) c.loop-c.c (c.args.e) c.requires.1 (omega arith) (sym g ∙ c.if-not-stands.true)) ∙ c.loop-c.invariant
 
 pub loop-c-smaller : goal.loop-c-smaller
 loop-c-smaller c = let z = c.requires.1 c.loop-c.c (omega arith) in let f = c.size_at-c.ensures.0 in omega arith
@@ -24,7 +24,7 @@ pub loop-c-preserved : goal.loop-c-preserved
 loop-c-preserved c =
     let g : c.stands.result ≡ in_class (slot_of (c.args.k) (role_at (c.args.t.now) c.loop-c.c)).class (kind_at (c.args.t.now) c.loop-c.c) = c.stands.ensures ∙ (cc (c.slot_class.ensures, c.kind_at.ensures.0, c.role_at.ensures.0)) in
     let f = c.size_at-c.ensures.0 in
-    rw f (stand_yes (c.args.t.now) (c.args.k) c.loop-c.c (c.args.e) c.requires.1 (omega arith) (sym g ∙ not-false c.stands.result c.if-not-stands.false) ∙ c.loop-c.invariant)
+    rw f (stand_yes (c.args.t.now) (c.args.k) c.loop-c.c (c.args.e) c.requires.1 (omega arith) (sym g ∙ c.if-not-stands.false) ∙ c.loop-c.invariant)
 
 pub returns : goal.returns
 returns c = sym (stand_end (c.args.t.now) (c.args.k) c.loop-c.c (c.args.e) (omega arith)) ∙ c.loop-c.invariant

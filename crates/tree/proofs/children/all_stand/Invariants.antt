@@ -5,12 +5,12 @@ use native.Mathlib.Omega.{arith}
 use mathlib.Core.Path.{◌≡◌, refl, sym, ◌∙◌}
 use Rattle.tree.specs.Bytes.{kind_at, role_at}
 use Rattle.tree.specs.Children.{in_class, slot_of}
-use Rattle.tree.specs.code.Kids.{kids_from, all_stand}
+use Rattle.tree.specs.code.Kids.{kids_from, kids_stand}
 use Rattle.tree.proofs.Kids.{stand_yes, stand_no, stand_end}
 use Rattle.tree.proofs.children.all_stand.Given as goal
 
 abbrev pub invariant-loop-c : goal.invariant-loop-c
-invariant-loop-c l = all_stand l.t l.k (kids_from l.t l.c l.e) ≡ all_stand l.t l.k (kids_from l.t l.from l.e)
+invariant-loop-c l = kids_stand l.t l.k (kids_from l.t l.c l.e) ≡ kids_stand l.t l.k (kids_from l.t l.from l.e)
 
 abbrev pub decreases-loop-c : goal.decreases-loop-c
 decreases-loop-c l = l.e - l.c

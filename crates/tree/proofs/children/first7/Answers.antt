@@ -11,7 +11,7 @@ use Rattle.tree.proofs.children.first7.Goals as goal
 
 pub returns-then-not-root_ok : goal.returns-then-not-root_ok
 returns-then-not-root_ok c =
-    sym (first_here (c.args.n) 0 (bad7 (c.args.t.now) (c.args.n)) (omega arith) (seven_root (c.args.t.now) (c.args.n) (sym c.root_ok.ensures ∙ not-true c.root_ok.result c.if-not-root_ok.true))) ∙ first_start (c.args.n) (bad7 (c.args.t.now) (c.args.n))
+    sym (first_here (c.args.n) 0 (bad7 (c.args.t.now) (c.args.n)) (omega arith) (seven_root (c.args.t.now) (c.args.n) (sym c.root_ok.ensures ∙ c.if-not-root_ok.true))) ∙ first_start (c.args.n) (bad7 (c.args.t.now) (c.args.n))
 
 pub loop-i-init : goal.loop-i-init
 loop-i-init c = (search rules, first_start (c.args.n) (bad7 (c.args.t.now) (c.args.n)))
@@ -22,11 +22,11 @@ kids_ok-requires c =
 
 pub returns-then-not-kids_ok : goal.returns-then-not-kids_ok
 returns-then-not-kids_ok c =
-    sym (first_here (c.args.n) c.loop-i.i (bad7 (c.args.t.now) (c.args.n)) (omega arith) (seven (c.args.t.now) (c.args.n) c.loop-i.i (sym c.root_ok.ensures ∙ not-false c.root_ok.result c.if-not-root_ok.false) ∙ rw c.kids_ok.ensures at c.if-not-kids_ok.true)) ∙ c.loop-i.invariant.1
+    sym (first_here (c.args.n) c.loop-i.i (bad7 (c.args.t.now) (c.args.n)) (omega arith) (seven (c.args.t.now) (c.args.n) c.loop-i.i (sym c.root_ok.ensures ∙ c.if-not-root_ok.false) ∙ rw c.kids_ok.ensures at c.if-not-kids_ok.true)) ∙ c.loop-i.invariant.1
 
 pub loop-i-preserved : goal.loop-i-preserved
 loop-i-preserved c =
-    (search rules, first_next (c.args.n) c.loop-i.i (bad7 (c.args.t.now) (c.args.n)) (omega arith) (seven (c.args.t.now) (c.args.n) c.loop-i.i (sym c.root_ok.ensures ∙ not-false c.root_ok.result c.if-not-root_ok.false) ∙ rw c.kids_ok.ensures at c.if-not-kids_ok.false) ∙ c.loop-i.invariant.1)
+    (search rules, first_next (c.args.n) c.loop-i.i (bad7 (c.args.t.now) (c.args.n)) (omega arith) (seven (c.args.t.now) (c.args.n) c.loop-i.i (sym c.root_ok.ensures ∙ c.if-not-root_ok.false) ∙ rw c.kids_ok.ensures at c.if-not-kids_ok.false) ∙ c.loop-i.invariant.1)
 
 pub returns : goal.returns
 returns c =

@@ -21,15 +21,15 @@ loop-i-init c =
 pub returns-then-not-formed_at : goal.returns-then-not-formed_at
 returns-then-not-formed_at c =
     let f = c.loop-i.invariant.1.1.1.0 in
-    let z : formed_at (c.args.t.now) (offset (c.args.t.now) (c.args.n) c.loop-i.i) ≡ false = rw f at (sym c.formed_at.ensures ∙ not-true c.formed_at.result c.if-not-formed_at.true) in
+    let z : formed_at (c.args.t.now) (offset (c.args.t.now) (c.args.n) c.loop-i.i) ≡ false = rw f at (sym c.formed_at.ensures ∙ c.if-not-formed_at.true) in
     sym (first_here (c.args.nv) c.loop-i.i (bad5 (c.args.t.now) (c.args.n)) (omega arith) (five_form (c.args.t.now) (c.args.n) c.loop-i.i z)) ∙ c.loop-i.invariant.1.1.1.1.1
 
 pub returns-then-not-in_order : goal.returns-then-not-in_order
 returns-then-not-in_order c =
     let f = c.loop-i.invariant.1.1.1.0 in
     let g = c.loop-i.invariant.1.1.1.1.0 c.if-i-gt0.true in
-    let z : formed_at (c.args.t.now) (offset (c.args.t.now) (c.args.n) c.loop-i.i) ≡ true = rw f at (sym c.formed_at.ensures ∙ not-false c.formed_at.result c.if-not-formed_at.false) in
-    let o : ordered_at (c.args.t.now) (offset (c.args.t.now) (c.args.n) (c.loop-i.i - 1)) (offset (c.args.t.now) (c.args.n) c.loop-i.i) ≡ false = rw (g, f) at (sym c.in_order.ensures ∙ not-true c.in_order.result c.if-not-in_order.true) in
+    let z : formed_at (c.args.t.now) (offset (c.args.t.now) (c.args.n) c.loop-i.i) ≡ true = rw f at (sym c.formed_at.ensures ∙ c.if-not-formed_at.false) in
+    let o : ordered_at (c.args.t.now) (offset (c.args.t.now) (c.args.n) (c.loop-i.i - 1)) (offset (c.args.t.now) (c.args.n) c.loop-i.i) ≡ false = rw (g, f) at (sym c.in_order.ensures ∙ c.if-not-in_order.true) in
     sym (first_here (c.args.nv) c.loop-i.i (bad5 (c.args.t.now) (c.args.n)) (omega arith) (five_order (c.args.t.now) (c.args.n) c.loop-i.i z c.if-i-gt0.true o)) ∙ c.loop-i.invariant.1.1.1.1.1
 
 pub loop-i-preserved : goal.loop-i-preserved
@@ -37,7 +37,7 @@ loop-i-preserved c =
     let f = c.loop-i.invariant.1.1.1.0 in
     let e = c.u16_at.ensures.0 in
     let q : c.loop-i.i + 1 - 1 ≡ c.loop-i.i = omega arith in
-    let z : formed_at (c.args.t.now) (offset (c.args.t.now) (c.args.n) c.loop-i.i) ≡ true = rw f at (sym c.formed_at.ensures ∙ not-false c.formed_at.result c.if-not-formed_at.false) in
+    let z : formed_at (c.args.t.now) (offset (c.args.t.now) (c.args.n) c.loop-i.i) ≡ true = rw f at (sym c.formed_at.ensures ∙ c.if-not-formed_at.false) in
     let y : bad5 (c.args.t.now) (c.args.n) c.loop-i.i ≡ false =
     ⊎_elim (λ w. let g = c.loop-i.invariant.1.1.1.1.0 w.0.taken in
     let o : ordered_at (c.args.t.now) (offset (c.args.t.now) (c.args.n) (c.loop-i.i - 1)) (offset (c.args.t.now) (c.args.n) c.loop-i.i) ≡ true = rw (g, f) at (sym w.1.ensures ∙ not-false w.1.result w.2.left) in five_ok (c.args.t.now) (c.args.n) c.loop-i.i z o)

@@ -1,0 +1,8 @@
+use borrow.Author.Rules.{rules}
+use Prim.Native.Nat.{◌-◌}
+use Rattle.tree.specs.Bytes.{size_at}
+use Rattle.tree.proofs.bytes.size_at.Goals as goal
+
+pub returns : goal.returns
+unfolding size_at
+returns c = search rules
