@@ -40,7 +40,7 @@ unfolding all_filled kids_filled
 filled_same zero k l = refl
 filled_same (suc r) k l = rw (filled_same r k l, many_same r l)
 
-pairs_same : (w : ℕ) {t : List ℕ} {cs : List ℕ} {f : Forest} → Lists t cs f → in_pairs w f ≡ paired t w cs
+pairs_same : {t : List ℕ} (w : ℕ) {cs : List ℕ} {f : Forest} → Lists t cs f → in_pairs w f ≡ paired t w cs
 unfolding in_pairs paired node_head
 pairs_same w nil = refl
 pairs_same w (cons c g l) = rw (pairs_same (12 - w) l)

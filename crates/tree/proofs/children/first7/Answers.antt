@@ -7,6 +7,7 @@ use Rattle.tree.specs.Search.{first, lowest}
 use Rattle.tree.specs.code.Kids.{bad7}
 use Rattle.tree.proofs.Search.{first_start, first_here, first_next, first_end}
 use Rattle.tree.proofs.Six.{six_sized, six_ends, seven, seven_root}
+use Rattle.std.proofs.lemmas.Bool.{not_from_false, not_from_true}
 use Rattle.tree.proofs.children.first7.Goals as goal
 
 pub returns-then-not-root_ok : goal.returns-then-not-root_ok
@@ -22,11 +23,11 @@ kids_ok-requires c =
 
 pub returns-then-not-kids_ok : goal.returns-then-not-kids_ok
 returns-then-not-kids_ok c =
-    sym (first_here (c.args.n) c.loop-i.i (bad7 (c.args.t.now) (c.args.n)) (omega arith) (seven (c.args.t.now) (c.args.n) c.loop-i.i (sym c.root_ok.ensures ∙ c.if-not-root_ok.false) ∙ rw c.kids_ok.ensures at c.if-not-kids_ok.true)) ∙ c.loop-i.invariant.1
+    sym (first_here (c.args.n) c.loop-i.i (bad7 (c.args.t.now) (c.args.n)) (omega arith) (seven (c.args.t.now) (c.args.n) c.loop-i.i (sym c.root_ok.ensures ∙ c.if-not-root_ok.false) ∙ not_from_false _ (rw c.kids_ok.ensures at c.if-not-kids_ok.true))) ∙ c.loop-i.invariant.1
 
 pub loop-i-preserved : goal.loop-i-preserved
 loop-i-preserved c =
-    (search rules, first_next (c.args.n) c.loop-i.i (bad7 (c.args.t.now) (c.args.n)) (omega arith) (seven (c.args.t.now) (c.args.n) c.loop-i.i (sym c.root_ok.ensures ∙ c.if-not-root_ok.false) ∙ rw c.kids_ok.ensures at c.if-not-kids_ok.false) ∙ c.loop-i.invariant.1)
+    (search rules, first_next (c.args.n) c.loop-i.i (bad7 (c.args.t.now) (c.args.n)) (omega arith) (seven (c.args.t.now) (c.args.n) c.loop-i.i (sym c.root_ok.ensures ∙ c.if-not-root_ok.false) ∙ not_from_true _ (rw c.kids_ok.ensures at c.if-not-kids_ok.false)) ∙ c.loop-i.invariant.1)
 
 pub returns : goal.returns
 returns c =

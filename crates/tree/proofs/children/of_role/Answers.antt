@@ -2,10 +2,10 @@ use borrow.Author.Rules.{rules}
 use Prim.Native.Nat.{◌+◌, ◌-◌, ◌≤◌}
 use native.Mathlib.Omega.{arith}
 use mathlib.Core.Path.{◌≡◌, sym, ◌∙◌}
-use mathlib.Core.Logic.{⊎_elim}
 use Rattle.tree.specs.code.Kids.{kids_from, of_role}
 use Rattle.tree.proofs.Kids.{role_yes, role_no, role_end}
 use Rattle.tree.proofs.children.of_role.Goals as goal
+use Rattle.tree.proofs.children.of_role.Goals.{then-role_at-r, else-role_at-r}
 
 pub loop-c-smaller : goal.loop-c-smaller
 loop-c-smaller c = let z = c.requires.1 c.loop-c.c (omega arith) in let f = c.size_at-c.ensures.0 in omega arith
@@ -14,8 +14,10 @@ pub loop-c-preserved : goal.loop-c-preserved
 loop-c-preserved c =
     let z = c.requires.1 c.loop-c.c (omega arith) in let f = c.size_at-c.ensures.0 in let x = c.role_at.ensures.0 in
     let i = c.loop-c.invariant.1 in
-    ⊎_elim (λ w. let y = role_yes (c.args.t.now) (c.args.r) c.loop-c.c (c.args.e) c.requires.1 (omega arith) (sym x ∙ w.0.taken) in (omega (arith, w.1), rw f (omega (arith, w.1, y, i))))
-    (λ w. let y = role_no (c.args.t.now) (c.args.r) c.loop-c.c (c.args.e) c.requires.1 (omega arith) (λ q. w.0.left (x ∙ q)) in (omega (arith, w.1), rw f (omega (arith, w.1, y, i)))) c.if-role_at-r.branch
+    elim c.if-role_at-r.branch [
+      | then-role_at-r w ↦ let y = role_yes (c.args.t.now) (c.args.r) c.loop-c.c (c.args.e) c.requires.1 (omega arith) (sym x ∙ w.if-role_at-r.true) in (omega (arith, w.m-is), rw f (omega (arith, w.m-is, y, i)))
+      | else-role_at-r w ↦ let y = role_no (c.args.t.now) (c.args.r) c.loop-c.c (c.args.e) c.requires.1 (omega arith) (λ q. w.if-role_at-r.false (x ∙ q)) in (omega (arith, w.m-is), rw f (omega (arith, w.m-is, y, i)))
+    ]
 
 pub returns : goal.returns
 returns c =

@@ -13,6 +13,7 @@ use Rattle.tree.proofs.Search.{first_start, first_here, first_next, first_end}
 use Rattle.tree.proofs.ValueLaws.{offset_next, offset_start}
 use Rattle.tree.proofs.Names.{five_form, five_order, five_ok, five_first}
 use Rattle.tree.proofs.values.first5.Goals as goal
+use Rattle.tree.proofs.values.first5.Goals.{then-i-gt0+else-not-in_order, else-i-gt0}
 
 pub loop-i-init : goal.loop-i-init
 loop-i-init c =
@@ -39,9 +40,11 @@ loop-i-preserved c =
     let q : c.loop-i.i + 1 - 1 ≡ c.loop-i.i = omega arith in
     let z : formed_at (c.args.t.now) (offset (c.args.t.now) (c.args.n) c.loop-i.i) ≡ true = rw f at (sym c.formed_at.ensures ∙ c.if-not-formed_at.false) in
     let y : bad5 (c.args.t.now) (c.args.n) c.loop-i.i ≡ false =
-    ⊎_elim (λ w. let g = c.loop-i.invariant.1.1.1.1.0 w.0.taken in
-    let o : ordered_at (c.args.t.now) (offset (c.args.t.now) (c.args.n) (c.loop-i.i - 1)) (offset (c.args.t.now) (c.args.n) c.loop-i.i) ≡ true = rw (g, f) at (sym w.1.ensures ∙ not-false w.1.result w.2.left) in five_ok (c.args.t.now) (c.args.n) c.loop-i.i z o)
-    (λ w. five_first (c.args.t.now) (c.args.n) c.loop-i.i z w.left) c.if-i-gt0.branch in
+    elim c.if-i-gt0.branch [
+      | then-i-gt0+else-not-in_order w ↦ let g = c.loop-i.invariant.1.1.1.1.0 w.if-i-gt0.true in
+          let o : ordered_at (c.args.t.now) (offset (c.args.t.now) (c.args.n) (c.loop-i.i - 1)) (offset (c.args.t.now) (c.args.n) c.loop-i.i) ≡ true = rw (g, f) at (sym w.in_order.ensures ∙ w.if-not-in_order.false) in five_ok (c.args.t.now) (c.args.n) c.loop-i.i z o
+      | else-i-gt0 w ↦ five_first (c.args.t.now) (c.args.n) c.loop-i.i z w.if-i-gt0.false
+    ] in
     (search rules, (omega arith, (omega arith, (rw offset_next (rw (← f) (rw (← e) refl)), ((λ h. rw q f), first_next (c.args.nv) c.loop-i.i (bad5 (c.args.t.now) (c.args.n)) (omega arith) y ∙ c.loop-i.invariant.1.1.1.1.1)))))
 
 pub returns : goal.returns
