@@ -24,7 +24,7 @@ BY_HAND = {
     "join-end": "join_end_is", "pass-lines": "pass_lines_are",
 }
 # two lemmas of one name
-BY_FILE = {("node-of", "tree"): "node_bytes", ("node-of", "names"): "node_in_part", ("level-of", "log"): "level_of", ("level-of", "sarif_log"): "level_of"}
+BY_FILE = {("node-of", "tree"): "node_bytes", ("node-of", "rules"): "node_bytes", ("node-of", "names"): "node_in_part", ("level-of", "log"): "level_of", ("level-of", "sarif_log"): "level_of"}
 SKIP = re.compile(r'--[^\n]*|"(?:[^"\\\n]|\\.)*"')
 WORD = re.compile(r"[^\s(){}\[\],;.@«»`]+")
 DEF = re.compile(r"^\s*(?:(?:abbrev|unfoldable|pub|data|record|mutual|\|)\s+)*([^\s(){}\[\],;.:=→]+)\s*(?::(?!=)|[({].*:|where)")

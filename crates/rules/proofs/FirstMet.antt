@@ -259,14 +259,14 @@ counted s (below n) e = let p = counted s n e in omega arith
 counted s (beside n) e = let p = counted s n e in omega arith
 
 -- where a span and name stands once, two nodes that have it are one
-only_one : (s : Spot) (f : Forest) {g h : Head} → count s f ≤ 1 → Holder g f → Holder h f → T (same s g.spot) → T (same s h.spot) → g ≡ h
+only_one : (s : Spot) {g h : Head} (f : Forest) → count s f ≤ 1 → Holder g f → Holder h f → T (same s g.spot) → T (same s h.spot) → g ≡ h
 only_one s f u (at t) (at v) a b = refl
-only_one s f {g} u (at t) (below n) a b = let p = me_one s g a t in let q = counted s n b in absurd (let z : ⊥ = omega (arith, p, q, u) in z)
-only_one s f {g} u (at t) (beside n) a b = let p = me_one s g a t in let q = counted s n b in absurd (let z : ⊥ = omega (arith, p, q, u) in z)
-only_one s f {g} {h} u (below n) (at v) a b = let p = me_one s h b v in let q = counted s n a in absurd (let z : ⊥ = omega (arith, p, q, u) in z)
+only_one s {g} f u (at t) (below n) a b = let p = me_one s g a t in let q = counted s n b in absurd (let z : ⊥ = omega (arith, p, q, u) in z)
+only_one s {g} f u (at t) (beside n) a b = let p = me_one s g a t in let q = counted s n b in absurd (let z : ⊥ = omega (arith, p, q, u) in z)
+only_one s {g} {h} f u (below n) (at v) a b = let p = me_one s h b v in let q = counted s n a in absurd (let z : ⊥ = omega (arith, p, q, u) in z)
 only_one s f u (below {k = k} n) (below m) a b = only_one s k (omega (arith, u)) n m a b
 only_one s f u (below n) (beside m) a b = let p = counted s n a in let q = counted s m b in absurd (let z : ⊥ = omega (arith, p, q, u) in z)
-only_one s f {g} {h} u (beside n) (at v) a b = let p = me_one s h b v in let q = counted s n a in absurd (let z : ⊥ = omega (arith, p, q, u) in z)
+only_one s {g} {h} f u (beside n) (at v) a b = let p = me_one s h b v in let q = counted s n a in absurd (let z : ⊥ = omega (arith, p, q, u) in z)
 only_one s f u (beside n) (below m) a b = let p = counted s n a in let q = counted s m b in absurd (let z : ⊥ = omega (arith, p, q, u) in z)
 only_one s f u (beside {s = r} n) (beside m) a b = only_one s r (omega (arith, u)) n m a b
 

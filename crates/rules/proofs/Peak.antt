@@ -11,7 +11,7 @@ use Rattle.rules.specs.Order.{Cmd, skip, ◌⨟◌, use_of, set_of, stop, branch
 use Rattle.tree.specs.Children.{class_of, slot_of, kids_fit, all_stand, all_filled, many, in_order, in_pairs, for_first}
 use Rattle.tree.specs.code.Shape.{valid, root_fits, fitting}
 use Rattle.rules.specs.code.Marks.{House, round_house, enter_house, tour, total, unbound_in, mid, start}
-use Rattle.tree.specs.Written.{node_of, value_of, file}
+use Rattle.tree.specs.Written.{node_bytes, value_of, file}
 
 abbrev peak_rounds : Bool → (House → ℕ) → (House → House) → House → ℕ
 peak_rounds true p f m = max (p m) (p (round_house f m))
@@ -32,38 +32,38 @@ peak d (scope c) m = peak d c (enter_house m)
 abbrev nest : List ℕ
 nest =
     file
-    (node_of 11 0 32 0 63 65535
-    ∷ node_of 40 5 1 1 2 7
-    ∷ node_of 21 4 1 3 4 12
-    ∷ node_of 12 1 29 5 62 65535
-    ∷ node_of 40 6 1 6 7 2
-    ∷ node_of 11 1 27 8 61 65535
-    ∷ node_of 40 5 1 9 10 8
-    ∷ node_of 21 4 1 11 12 12
-    ∷ node_of 12 1 24 13 60 65535
-    ∷ node_of 40 6 1 14 15 3
-    ∷ node_of 11 1 22 16 59 65535
-    ∷ node_of 40 5 1 17 18 9
-    ∷ node_of 21 4 1 19 20 12
-    ∷ node_of 12 1 19 21 58 65535
-    ∷ node_of 40 6 1 22 23 4
-    ∷ node_of 11 1 17 24 57 65535
-    ∷ node_of 40 5 1 25 26 10
-    ∷ node_of 21 4 1 27 28 12
-    ∷ node_of 12 1 14 29 56 65535
-    ∷ node_of 40 6 1 30 31 5
-    ∷ node_of 11 1 12 32 55 65535
-    ∷ node_of 40 5 1 33 34 11
-    ∷ node_of 21 4 1 35 36 12
-    ∷ node_of 12 1 9 37 54 65535
-    ∷ node_of 40 6 1 38 39 6
-    ∷ node_of 7 1 7 40 53 65535
-    ∷ node_of 42 5 5 41 50 65535
-    ∷ node_of 24 0 4 42 49 65535
-    ∷ node_of 27 1 3 43 48 65535
-    ∷ node_of 20 0 1 44 45 0
-    ∷ node_of 20 0 1 46 47 1
-    ∷ node_of 21 4 1 51 52 12
+    (node_bytes 11 0 32 0 63 65535
+    ∷ node_bytes 40 5 1 1 2 7
+    ∷ node_bytes 21 4 1 3 4 12
+    ∷ node_bytes 12 1 29 5 62 65535
+    ∷ node_bytes 40 6 1 6 7 2
+    ∷ node_bytes 11 1 27 8 61 65535
+    ∷ node_bytes 40 5 1 9 10 8
+    ∷ node_bytes 21 4 1 11 12 12
+    ∷ node_bytes 12 1 24 13 60 65535
+    ∷ node_bytes 40 6 1 14 15 3
+    ∷ node_bytes 11 1 22 16 59 65535
+    ∷ node_bytes 40 5 1 17 18 9
+    ∷ node_bytes 21 4 1 19 20 12
+    ∷ node_bytes 12 1 19 21 58 65535
+    ∷ node_bytes 40 6 1 22 23 4
+    ∷ node_bytes 11 1 17 24 57 65535
+    ∷ node_bytes 40 5 1 25 26 10
+    ∷ node_bytes 21 4 1 27 28 12
+    ∷ node_bytes 12 1 14 29 56 65535
+    ∷ node_bytes 40 6 1 30 31 5
+    ∷ node_bytes 11 1 12 32 55 65535
+    ∷ node_bytes 40 5 1 33 34 11
+    ∷ node_bytes 21 4 1 35 36 12
+    ∷ node_bytes 12 1 9 37 54 65535
+    ∷ node_bytes 40 6 1 38 39 6
+    ∷ node_bytes 7 1 7 40 53 65535
+    ∷ node_bytes 42 5 5 41 50 65535
+    ∷ node_bytes 24 0 4 42 49 65535
+    ∷ node_bytes 27 1 3 43 48 65535
+    ∷ node_bytes 20 0 1 44 45 0
+    ∷ node_bytes 20 0 1 46 47 1
+    ∷ node_bytes 21 4 1 51 52 12
     ∷ [])
     (value_of 0 (0x79 ∷ [])
     ∷ value_of 0 (0x7a ∷ [])

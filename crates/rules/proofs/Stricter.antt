@@ -145,7 +145,7 @@ stands_part {t} p = induct (λ i e. e ≤ 1024 → (above earlier : List Head) �
     let a : e - i ≡ suc (i + size_at t i - (i + 1) + (e - (i + size_at t i))) = omega arith in
     let b : suc i + (i + size_at t i - (i + 1)) ≡ i + size_at t i = omega arith in
     let c : suc i ≡ i + 1 = omega arith in
-    rw (forest_node p lt, map-append, inside (omega arith) (node_head t i ∷ above) [], after few above (earlier ++ (node_head t i ∷ [])), a, own)
+    rw (forest_node p lt, map-append (λ (s : Stand). s.head.number), inside (omega arith) (node_head t i ∷ above) [], after few above (earlier ++ (node_head t i ∷ [])), a, own)
     (ap (λ (l : List ℕ). i ∷ l)
     (ap₂ (λ (x y : ℕ). numbers (i + size_at t i - (i + 1)) x ++ numbers (e - (i + size_at t i)) y) (sym c) (sym b)
     ∙ numbers_append (i + size_at t i - (i + 1)) (e - (i + size_at t i)) (suc i))))

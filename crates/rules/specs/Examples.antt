@@ -6,7 +6,7 @@ use Rattle.std.specs.Prelude.{ℕ, zero, suc, Bool, true, ◌&&◌, List, [], �
 use Rattle.tree.specs.Judge.{judged, number_of, place_of}
 use Rattle.tree.specs.declared.Judged.{Judged}
 use Rattle.tree.specs.declared.Judged.TheVariants.{Valid, Refused}
-use Rattle.tree.specs.Written.{u16, node_of, value_of, joined, headed, file_of, file}
+use Rattle.tree.specs.Written.{u16, node_bytes, value_of, joined, headed, file_of, file}
 use Rattle.rules.specs.Known.{Row, in_either_mode}
 
 -- a header, with nothing after it
@@ -24,7 +24,7 @@ file_given gs ns vs = file_given_of 1 gs ns vs
 
 -- the nodes and the value of 01's example of the listing program
 abbrev pub one_literal : List (List ℕ)
-one_literal = node_of 5 0 2 0 1 65535 ∷ node_of 21 4 1 0 1 0 ∷ []
+one_literal = node_bytes 5 0 2 0 1 65535 ∷ node_bytes 21 4 1 0 1 0 ∷ []
 
 abbrev pub value_one : List (List ℕ)
 value_one = value_of 3 (0x01 ∷ []) ∷ []
@@ -36,8 +36,8 @@ value_one = value_of 3 (0x01 ∷ []) ∷ []
 abbrev pub unused_load : List ℕ
 unused_load =
     file
-    (node_of 13 0 2 0 30 65535
-    ∷ node_of 47 0 1 19 29 0
+    (node_bytes 13 0 2 0 30 65535
+    ∷ node_bytes 47 0 1 19 29 0
     ∷ [])
     (value_of 0 (0x73 ∷ 0x69 ∷ 0x64 ∷ 0x65 ∷ 0x72 ∷ 0x65 ∷ 0x61 ∷ 0x6c ∷ [])
     ∷ [])
@@ -48,10 +48,10 @@ unused_load =
 abbrev pub unused_argument : List ℕ
 unused_argument =
     file
-    (node_of 12 0 4 0 18 65535
-    ∷ node_of 40 6 1 4 5 0
-    ∷ node_of 43 0 1 6 7 1
-    ∷ node_of 3 1 1 14 18 65535
+    (node_bytes 12 0 4 0 18 65535
+    ∷ node_bytes 40 6 1 4 5 0
+    ∷ node_bytes 43 0 1 6 7 1
+    ∷ node_bytes 3 1 1 14 18 65535
     ∷ [])
     (value_of 0 (0x66 ∷ [])
     ∷ value_of 0 (0x78 ∷ [])
@@ -63,14 +63,14 @@ unused_argument =
 abbrev pub using_unassigned : List ℕ
 using_unassigned =
     file
-    (node_of 8 0 8 0 14 65535
-    ∷ node_of 5 0 4 0 8 65535
-    ∷ node_of 23 4 3 0 8 65535
-    ∷ node_of 20 7 1 0 5 1
-    ∷ node_of 20 0 1 6 7 0
-    ∷ node_of 6 0 3 9 14 65535
-    ∷ node_of 40 5 1 9 10 0
-    ∷ node_of 21 4 1 13 14 2
+    (node_bytes 8 0 8 0 14 65535
+    ∷ node_bytes 5 0 4 0 8 65535
+    ∷ node_bytes 23 4 3 0 8 65535
+    ∷ node_bytes 20 7 1 0 5 1
+    ∷ node_bytes 20 0 1 6 7 0
+    ∷ node_bytes 6 0 3 9 14 65535
+    ∷ node_bytes 40 5 1 9 10 0
+    ∷ node_bytes 21 4 1 13 14 2
     ∷ [])
     (value_of 0 (0x78 ∷ [])
     ∷ value_of 0 (0x70 ∷ 0x72 ∷ 0x69 ∷ 0x6e ∷ 0x74 ∷ [])
@@ -83,10 +83,10 @@ using_unassigned =
 abbrev pub using_undefined : List ℕ
 using_undefined =
     file_given (1 ∷ [])
-    (node_of 5 0 4 17 25 65535
-    ∷ node_of 23 4 3 17 25 65535
-    ∷ node_of 20 7 1 17 22 1
-    ∷ node_of 20 0 1 23 24 0
+    (node_bytes 5 0 4 17 25 65535
+    ∷ node_bytes 23 4 3 17 25 65535
+    ∷ node_bytes 20 7 1 17 22 1
+    ∷ node_bytes 20 0 1 23 24 0
     ∷ [])
     (value_of 0 (0x78 ∷ [])
     ∷ value_of 0 (0x70 ∷ 0x72 ∷ 0x69 ∷ 0x6e ∷ 0x74 ∷ [])
@@ -100,15 +100,15 @@ using_undefined =
 abbrev pub missing_return_expression : List ℕ
 missing_return_expression =
     file
-    (node_of 12 0 9 0 47 65535
-    ∷ node_of 40 6 1 4 5 1
-    ∷ node_of 43 0 1 6 7 0
-    ∷ node_of 8 1 6 14 47 65535
-    ∷ node_of 9 0 3 14 34 65535
-    ∷ node_of 20 4 1 17 18 0
-    ∷ node_of 4 1 1 28 34 65535
-    ∷ node_of 4 0 2 39 47 65535
-    ∷ node_of 21 4 1 46 47 2
+    (node_bytes 12 0 9 0 47 65535
+    ∷ node_bytes 40 6 1 4 5 1
+    ∷ node_bytes 43 0 1 6 7 0
+    ∷ node_bytes 8 1 6 14 47 65535
+    ∷ node_bytes 9 0 3 14 34 65535
+    ∷ node_bytes 20 4 1 17 18 0
+    ∷ node_bytes 4 1 1 28 34 65535
+    ∷ node_bytes 4 0 2 39 47 65535
+    ∷ node_bytes 21 4 1 46 47 2
     ∷ [])
     (value_of 0 (0x63 ∷ [])
     ∷ value_of 0 (0x66 ∷ [])
@@ -122,13 +122,13 @@ missing_return_expression =
 abbrev pub redundant_return : List ℕ
 redundant_return =
     file
-    (node_of 8 0 7 0 23 65535
-    ∷ node_of 12 0 3 0 19 65535
-    ∷ node_of 40 6 1 4 5 0
-    ∷ node_of 4 1 1 13 19 65535
-    ∷ node_of 5 0 3 20 23 65535
-    ∷ node_of 23 4 2 20 23 65535
-    ∷ node_of 20 7 1 20 21 0
+    (node_bytes 8 0 7 0 23 65535
+    ∷ node_bytes 12 0 3 0 19 65535
+    ∷ node_bytes 40 6 1 4 5 0
+    ∷ node_bytes 4 1 1 13 19 65535
+    ∷ node_bytes 5 0 3 20 23 65535
+    ∷ node_bytes 23 4 2 20 23 65535
+    ∷ node_bytes 20 7 1 20 21 0
     ∷ [])
     (value_of 0 (0x66 ∷ [])
     ∷ [])
@@ -140,14 +140,14 @@ redundant_return =
 abbrev pub redundant_continue : List ℕ
 redundant_continue =
     file
-    (node_of 8 0 8 0 33 65535
-    ∷ node_of 11 0 4 0 25 65535
-    ∷ node_of 40 5 1 4 5 0
-    ∷ node_of 20 4 1 9 11 1
-    ∷ node_of 2 1 1 17 25 65535
-    ∷ node_of 5 0 3 26 33 65535
-    ∷ node_of 23 4 2 26 33 65535
-    ∷ node_of 20 7 1 26 31 2
+    (node_bytes 8 0 8 0 33 65535
+    ∷ node_bytes 11 0 4 0 25 65535
+    ∷ node_bytes 40 5 1 4 5 0
+    ∷ node_bytes 20 4 1 9 11 1
+    ∷ node_bytes 2 1 1 17 25 65535
+    ∷ node_bytes 5 0 3 26 33 65535
+    ∷ node_bytes 23 4 2 26 33 65535
+    ∷ node_bytes 20 7 1 26 31 2
     ∷ [])
     (value_of 0 (0x69 ∷ [])
     ∷ value_of 0 (0x78 ∷ 0x73 ∷ [])
@@ -161,15 +161,15 @@ redundant_continue =
 abbrev pub misplaced_load : List ℕ
 misplaced_load =
     file
-    (node_of 8 0 9 0 49 65535
-    ∷ node_of 5 0 3 0 7 65535
-    ∷ node_of 23 4 2 0 7 65535
-    ∷ node_of 20 7 1 0 5 0
-    ∷ node_of 13 0 2 8 38 65535
-    ∷ node_of 47 0 1 27 37 1
-    ∷ node_of 5 0 3 39 49 65535
-    ∷ node_of 23 4 2 39 49 65535
-    ∷ node_of 20 7 1 39 47 1
+    (node_bytes 8 0 9 0 49 65535
+    ∷ node_bytes 5 0 3 0 7 65535
+    ∷ node_bytes 23 4 2 0 7 65535
+    ∷ node_bytes 20 7 1 0 5 0
+    ∷ node_bytes 13 0 2 8 38 65535
+    ∷ node_bytes 47 0 1 27 37 1
+    ∷ node_bytes 5 0 3 39 49 65535
+    ∷ node_bytes 23 4 2 39 49 65535
+    ∷ node_bytes 20 7 1 39 47 1
     ∷ [])
     (value_of 0 (0x70 ∷ 0x72 ∷ 0x69 ∷ 0x6e ∷ 0x74 ∷ [])
     ∷ value_of 0 (0x73 ∷ 0x69 ∷ 0x64 ∷ 0x65 ∷ 0x72 ∷ 0x65 ∷ 0x61 ∷ 0x6c ∷ [])
@@ -180,14 +180,14 @@ misplaced_load =
 abbrev pub incompatible_type_check : List ℕ
 incompatible_type_check =
     file
-    (node_of 5 0 8 0 21 65535
-    ∷ node_of 23 4 7 0 21 65535
-    ∷ node_of 20 7 1 0 5 3
-    ∷ node_of 31 0 5 6 20 65535
-    ∷ node_of 23 1 3 6 13 65535
-    ∷ node_of 20 7 1 6 10 2
-    ∷ node_of 20 0 1 11 12 0
-    ∷ node_of 20 2 1 17 20 1
+    (node_bytes 5 0 8 0 21 65535
+    ∷ node_bytes 23 4 7 0 21 65535
+    ∷ node_bytes 20 7 1 0 5 3
+    ∷ node_bytes 31 0 5 6 20 65535
+    ∷ node_bytes 23 1 3 6 13 65535
+    ∷ node_bytes 20 7 1 6 10 2
+    ∷ node_bytes 20 0 1 11 12 0
+    ∷ node_bytes 20 2 1 17 20 1
     ∷ [])
     (value_of 0 (0x78 ∷ [])
     ∷ value_of 0 (0x73 ∷ 0x74 ∷ 0x72 ∷ [])
@@ -200,8 +200,8 @@ incompatible_type_check =
 abbrev pub ident_as_statement : List ℕ
 ident_as_statement =
     file
-    (node_of 5 0 2 0 1 65535
-    ∷ node_of 20 4 1 0 1 0
+    (node_bytes 5 0 2 0 1 65535
+    ∷ node_bytes 20 4 1 0 1 0
     ∷ [])
     (value_of 0 (0x78 ∷ [])
     ∷ [])
@@ -211,21 +211,21 @@ ident_as_statement =
 abbrev pub two_reasons : List ℕ
 two_reasons =
     file
-    (node_of 6 0 15 0 46 65535
-    ∷ node_of 40 5 1 0 1 0
-    ∷ node_of 29 4 13 4 46 65535
-    ∷ node_of 20 8 1 5 6 1
-    ∷ node_of 21 4 1 8 9 2
-    ∷ node_of 20 8 1 11 12 1
-    ∷ node_of 21 4 1 14 15 2
-    ∷ node_of 21 8 1 17 18 3
-    ∷ node_of 21 4 1 20 21 2
-    ∷ node_of 21 8 1 23 26 4
-    ∷ node_of 21 4 1 28 29 2
-    ∷ node_of 21 8 1 31 34 4
-    ∷ node_of 21 4 1 36 37 2
-    ∷ node_of 21 8 1 39 42 5
-    ∷ node_of 21 4 1 44 45 2
+    (node_bytes 6 0 15 0 46 65535
+    ∷ node_bytes 40 5 1 0 1 0
+    ∷ node_bytes 29 4 13 4 46 65535
+    ∷ node_bytes 20 8 1 5 6 1
+    ∷ node_bytes 21 4 1 8 9 2
+    ∷ node_bytes 20 8 1 11 12 1
+    ∷ node_bytes 21 4 1 14 15 2
+    ∷ node_bytes 21 8 1 17 18 3
+    ∷ node_bytes 21 4 1 20 21 2
+    ∷ node_bytes 21 8 1 23 26 4
+    ∷ node_bytes 21 4 1 28 29 2
+    ∷ node_bytes 21 8 1 31 34 4
+    ∷ node_bytes 21 4 1 36 37 2
+    ∷ node_bytes 21 8 1 39 42 5
+    ∷ node_bytes 21 4 1 44 45 2
     ∷ [])
     (value_of 0 (0x64 ∷ [])
     ∷ value_of 0 (0x78 ∷ [])
@@ -248,13 +248,13 @@ tick_values =
 abbrev pub ticks : List ℕ
 ticks =
     file
-    (node_of 6 0 7 0 48 65535
-    ∷ node_of 40 5 1 0 1 0
-    ∷ node_of 29 4 5 4 48 65535
-    ∷ node_of 21 8 1 5 21 2
-    ∷ node_of 21 4 1 23 24 1
-    ∷ node_of 21 8 1 26 44 3
-    ∷ node_of 21 4 1 46 47 1
+    (node_bytes 6 0 7 0 48 65535
+    ∷ node_bytes 40 5 1 0 1 0
+    ∷ node_bytes 29 4 5 4 48 65535
+    ∷ node_bytes 21 8 1 5 21 2
+    ∷ node_bytes 21 4 1 23 24 1
+    ∷ node_bytes 21 8 1 26 44 3
+    ∷ node_bytes 21 4 1 46 47 1
     ∷ [])
     tick_values
 
@@ -263,13 +263,13 @@ ticks =
 abbrev pub ticks_turned : List ℕ
 ticks_turned =
     file
-    (node_of 6 0 7 0 48 65535
-    ∷ node_of 40 5 1 0 1 0
-    ∷ node_of 29 4 5 4 48 65535
-    ∷ node_of 21 8 1 5 23 3
-    ∷ node_of 21 4 1 25 26 1
-    ∷ node_of 21 8 1 28 44 2
-    ∷ node_of 21 4 1 46 47 1
+    (node_bytes 6 0 7 0 48 65535
+    ∷ node_bytes 40 5 1 0 1 0
+    ∷ node_bytes 29 4 5 4 48 65535
+    ∷ node_bytes 21 8 1 5 23 3
+    ∷ node_bytes 21 4 1 25 26 1
+    ∷ node_bytes 21 8 1 28 44 2
+    ∷ node_bytes 21 4 1 46 47 1
     ∷ [])
     tick_values
 
@@ -279,43 +279,43 @@ ticks_turned =
 abbrev pub every_size : List ℕ
 every_size =
     file
-    (node_of 6 0 37 0 200 65535
-    ∷ node_of 40 5 1 0 1 0
-    ∷ node_of 29 4 35 5 200 65535
-    ∷ node_of 21 8 1 10 15 1
-    ∷ node_of 21 4 1 17 18 1
-    ∷ node_of 21 8 1 20 25 2
-    ∷ node_of 21 4 1 27 28 1
-    ∷ node_of 21 8 1 30 35 3
-    ∷ node_of 21 4 1 37 38 1
-    ∷ node_of 21 8 1 40 45 4
-    ∷ node_of 21 4 1 47 48 1
-    ∷ node_of 21 8 1 50 55 5
-    ∷ node_of 21 4 1 57 58 1
-    ∷ node_of 21 8 1 60 65 6
-    ∷ node_of 21 4 1 67 68 1
-    ∷ node_of 21 8 1 70 75 7
-    ∷ node_of 21 4 1 77 78 1
-    ∷ node_of 21 8 1 80 85 13
-    ∷ node_of 21 4 1 87 88 1
-    ∷ node_of 21 8 1 90 95 12
-    ∷ node_of 21 4 1 97 98 1
-    ∷ node_of 21 8 1 100 105 15
-    ∷ node_of 21 4 1 107 108 1
-    ∷ node_of 21 8 1 110 115 14
-    ∷ node_of 21 4 1 117 118 1
-    ∷ node_of 21 8 1 120 125 8
-    ∷ node_of 21 4 1 127 128 1
-    ∷ node_of 21 8 1 130 135 16
-    ∷ node_of 21 4 1 137 138 1
-    ∷ node_of 21 8 1 140 145 10
-    ∷ node_of 21 4 1 147 148 1
-    ∷ node_of 21 8 1 150 155 9
-    ∷ node_of 21 4 1 157 158 1
-    ∷ node_of 21 8 1 160 165 11
-    ∷ node_of 21 4 1 167 168 1
-    ∷ node_of 21 8 1 170 175 11
-    ∷ node_of 21 4 1 177 178 1
+    (node_bytes 6 0 37 0 200 65535
+    ∷ node_bytes 40 5 1 0 1 0
+    ∷ node_bytes 29 4 35 5 200 65535
+    ∷ node_bytes 21 8 1 10 15 1
+    ∷ node_bytes 21 4 1 17 18 1
+    ∷ node_bytes 21 8 1 20 25 2
+    ∷ node_bytes 21 4 1 27 28 1
+    ∷ node_bytes 21 8 1 30 35 3
+    ∷ node_bytes 21 4 1 37 38 1
+    ∷ node_bytes 21 8 1 40 45 4
+    ∷ node_bytes 21 4 1 47 48 1
+    ∷ node_bytes 21 8 1 50 55 5
+    ∷ node_bytes 21 4 1 57 58 1
+    ∷ node_bytes 21 8 1 60 65 6
+    ∷ node_bytes 21 4 1 67 68 1
+    ∷ node_bytes 21 8 1 70 75 7
+    ∷ node_bytes 21 4 1 77 78 1
+    ∷ node_bytes 21 8 1 80 85 13
+    ∷ node_bytes 21 4 1 87 88 1
+    ∷ node_bytes 21 8 1 90 95 12
+    ∷ node_bytes 21 4 1 97 98 1
+    ∷ node_bytes 21 8 1 100 105 15
+    ∷ node_bytes 21 4 1 107 108 1
+    ∷ node_bytes 21 8 1 110 115 14
+    ∷ node_bytes 21 4 1 117 118 1
+    ∷ node_bytes 21 8 1 120 125 8
+    ∷ node_bytes 21 4 1 127 128 1
+    ∷ node_bytes 21 8 1 130 135 16
+    ∷ node_bytes 21 4 1 137 138 1
+    ∷ node_bytes 21 8 1 140 145 10
+    ∷ node_bytes 21 4 1 147 148 1
+    ∷ node_bytes 21 8 1 150 155 9
+    ∷ node_bytes 21 4 1 157 158 1
+    ∷ node_bytes 21 8 1 160 165 11
+    ∷ node_bytes 21 4 1 167 168 1
+    ∷ node_bytes 21 8 1 170 175 11
+    ∷ node_bytes 21 4 1 177 178 1
     ∷ [])
     (value_of 0 (0x64 ∷ [])
     ∷ value_of 3 []
@@ -348,31 +348,31 @@ every_size =
 abbrev pub five_loops : List ℕ
 five_loops =
     file
-    (node_of 11 0 25 0 142 65535
-    ∷ node_of 40 5 1 4 5 3
-    ∷ node_of 20 4 1 9 11 7
-    ∷ node_of 11 1 22 15 142 65535
-    ∷ node_of 40 5 1 19 20 4
-    ∷ node_of 20 4 1 24 26 7
-    ∷ node_of 11 1 19 32 142 65535
-    ∷ node_of 40 5 1 36 37 5
-    ∷ node_of 20 4 1 41 43 7
-    ∷ node_of 11 1 16 51 142 65535
-    ∷ node_of 40 5 1 55 56 6
-    ∷ node_of 20 4 1 60 62 7
-    ∷ node_of 12 1 13 72 142 65535
-    ∷ node_of 40 6 1 76 77 2
-    ∷ node_of 11 1 11 91 142 65535
-    ∷ node_of 40 5 1 95 96 0
-    ∷ node_of 20 4 1 100 102 7
-    ∷ node_of 8 1 8 116 142 65535
-    ∷ node_of 5 0 4 116 124 65535
-    ∷ node_of 23 4 3 116 124 65535
-    ∷ node_of 20 7 1 116 121 8
-    ∷ node_of 20 0 1 122 123 1
-    ∷ node_of 6 0 3 137 142 65535
-    ∷ node_of 40 5 1 137 138 1
-    ∷ node_of 21 4 1 141 142 9
+    (node_bytes 11 0 25 0 142 65535
+    ∷ node_bytes 40 5 1 4 5 3
+    ∷ node_bytes 20 4 1 9 11 7
+    ∷ node_bytes 11 1 22 15 142 65535
+    ∷ node_bytes 40 5 1 19 20 4
+    ∷ node_bytes 20 4 1 24 26 7
+    ∷ node_bytes 11 1 19 32 142 65535
+    ∷ node_bytes 40 5 1 36 37 5
+    ∷ node_bytes 20 4 1 41 43 7
+    ∷ node_bytes 11 1 16 51 142 65535
+    ∷ node_bytes 40 5 1 55 56 6
+    ∷ node_bytes 20 4 1 60 62 7
+    ∷ node_bytes 12 1 13 72 142 65535
+    ∷ node_bytes 40 6 1 76 77 2
+    ∷ node_bytes 11 1 11 91 142 65535
+    ∷ node_bytes 40 5 1 95 96 0
+    ∷ node_bytes 20 4 1 100 102 7
+    ∷ node_bytes 8 1 8 116 142 65535
+    ∷ node_bytes 5 0 4 116 124 65535
+    ∷ node_bytes 23 4 3 116 124 65535
+    ∷ node_bytes 20 7 1 116 121 8
+    ∷ node_bytes 20 0 1 122 123 1
+    ∷ node_bytes 6 0 3 137 142 65535
+    ∷ node_bytes 40 5 1 137 138 1
+    ∷ node_bytes 21 4 1 141 142 9
     ∷ [])
     (value_of 0 (0x5f ∷ [])
     ∷ value_of 0 (0x61 ∷ [])
@@ -399,34 +399,34 @@ five_loops =
 abbrev pub six_loops : List ℕ
 six_loops =
     file
-    (node_of 11 0 28 0 171 65535
-    ∷ node_of 40 5 1 4 5 3
-    ∷ node_of 20 4 1 9 11 8
-    ∷ node_of 11 1 25 15 171 65535
-    ∷ node_of 40 5 1 19 20 4
-    ∷ node_of 20 4 1 24 26 8
-    ∷ node_of 11 1 22 32 171 65535
-    ∷ node_of 40 5 1 36 37 5
-    ∷ node_of 20 4 1 41 43 8
-    ∷ node_of 11 1 19 51 171 65535
-    ∷ node_of 40 5 1 55 56 6
-    ∷ node_of 20 4 1 60 62 8
-    ∷ node_of 11 1 16 72 171 65535
-    ∷ node_of 40 5 1 76 77 7
-    ∷ node_of 20 4 1 81 83 8
-    ∷ node_of 12 1 13 95 171 65535
-    ∷ node_of 40 6 1 99 100 2
-    ∷ node_of 11 1 11 116 171 65535
-    ∷ node_of 40 5 1 120 121 0
-    ∷ node_of 20 4 1 125 127 8
-    ∷ node_of 8 1 8 143 171 65535
-    ∷ node_of 5 0 4 143 151 65535
-    ∷ node_of 23 4 3 143 151 65535
-    ∷ node_of 20 7 1 143 148 9
-    ∷ node_of 20 0 1 149 150 1
-    ∷ node_of 6 0 3 166 171 65535
-    ∷ node_of 40 5 1 166 167 1
-    ∷ node_of 21 4 1 170 171 10
+    (node_bytes 11 0 28 0 171 65535
+    ∷ node_bytes 40 5 1 4 5 3
+    ∷ node_bytes 20 4 1 9 11 8
+    ∷ node_bytes 11 1 25 15 171 65535
+    ∷ node_bytes 40 5 1 19 20 4
+    ∷ node_bytes 20 4 1 24 26 8
+    ∷ node_bytes 11 1 22 32 171 65535
+    ∷ node_bytes 40 5 1 36 37 5
+    ∷ node_bytes 20 4 1 41 43 8
+    ∷ node_bytes 11 1 19 51 171 65535
+    ∷ node_bytes 40 5 1 55 56 6
+    ∷ node_bytes 20 4 1 60 62 8
+    ∷ node_bytes 11 1 16 72 171 65535
+    ∷ node_bytes 40 5 1 76 77 7
+    ∷ node_bytes 20 4 1 81 83 8
+    ∷ node_bytes 12 1 13 95 171 65535
+    ∷ node_bytes 40 6 1 99 100 2
+    ∷ node_bytes 11 1 11 116 171 65535
+    ∷ node_bytes 40 5 1 120 121 0
+    ∷ node_bytes 20 4 1 125 127 8
+    ∷ node_bytes 8 1 8 143 171 65535
+    ∷ node_bytes 5 0 4 143 151 65535
+    ∷ node_bytes 23 4 3 143 151 65535
+    ∷ node_bytes 20 7 1 143 148 9
+    ∷ node_bytes 20 0 1 149 150 1
+    ∷ node_bytes 6 0 3 166 171 65535
+    ∷ node_bytes 40 5 1 166 167 1
+    ∷ node_bytes 21 4 1 170 171 10
     ∷ [])
     (value_of 0 (0x5f ∷ [])
     ∷ value_of 0 (0x61 ∷ [])
@@ -453,21 +453,21 @@ six_loops =
 abbrev pub re_export : ℕ → List ℕ
 re_export version =
     file_of version
-    (node_of 8 0 15 13 109 65535
-    ∷ node_of 13 0 2 13 43 65535
-    ∷ node_of 47 0 1 32 42 1
-    ∷ node_of 6 0 3 45 64 65535
-    ∷ node_of 40 5 1 45 53 1
-    ∷ node_of 20 4 1 56 64 1
-    ∷ node_of 6 0 3 65 75 65535
-    ∷ node_of 40 5 1 65 70 0
-    ∷ node_of 21 4 1 73 75 2
-    ∷ node_of 6 0 3 76 89 65535
-    ∷ node_of 40 5 1 76 81 0
-    ∷ node_of 20 4 1 84 89 0
-    ∷ node_of 6 0 3 90 109 65535
-    ∷ node_of 40 5 1 90 98 1
-    ∷ node_of 20 4 1 101 109 1
+    (node_bytes 8 0 15 13 109 65535
+    ∷ node_bytes 13 0 2 13 43 65535
+    ∷ node_bytes 47 0 1 32 42 1
+    ∷ node_bytes 6 0 3 45 64 65535
+    ∷ node_bytes 40 5 1 45 53 1
+    ∷ node_bytes 20 4 1 56 64 1
+    ∷ node_bytes 6 0 3 65 75 65535
+    ∷ node_bytes 40 5 1 65 70 0
+    ∷ node_bytes 21 4 1 73 75 2
+    ∷ node_bytes 6 0 3 76 89 65535
+    ∷ node_bytes 40 5 1 76 81 0
+    ∷ node_bytes 20 4 1 84 89 0
+    ∷ node_bytes 6 0 3 90 109 65535
+    ∷ node_bytes 40 5 1 90 98 1
+    ∷ node_bytes 20 4 1 101 109 1
     ∷ [])
     (value_of 0 (0x73 ∷ 0x6f ∷ 0x6c ∷ 0x61 ∷ 0x72 ∷ [])
     ∷ value_of 0 (0x73 ∷ 0x69 ∷ 0x64 ∷ 0x65 ∷ 0x72 ∷ 0x65 ∷ 0x61 ∷ 0x6c ∷ [])
@@ -482,18 +482,18 @@ re_export version =
 abbrev pub set_between : ℕ → List ℕ
 set_between version =
     file_of version
-    (node_of 8 0 12 0 32 65535
-    ∷ node_of 13 0 2 0 14 65535
-    ∷ node_of 47 0 1 10 13 0
-    ∷ node_of 6 0 3 15 20 65535
-    ∷ node_of 40 5 1 15 16 0
-    ∷ node_of 21 4 1 19 20 1
-    ∷ node_of 6 0 3 21 26 65535
-    ∷ node_of 40 5 1 21 22 0
-    ∷ node_of 20 4 1 25 26 0
-    ∷ node_of 6 0 3 27 32 65535
-    ∷ node_of 40 5 1 27 28 0
-    ∷ node_of 20 4 1 31 32 0
+    (node_bytes 8 0 12 0 32 65535
+    ∷ node_bytes 13 0 2 0 14 65535
+    ∷ node_bytes 47 0 1 10 13 0
+    ∷ node_bytes 6 0 3 15 20 65535
+    ∷ node_bytes 40 5 1 15 16 0
+    ∷ node_bytes 21 4 1 19 20 1
+    ∷ node_bytes 6 0 3 21 26 65535
+    ∷ node_bytes 40 5 1 21 22 0
+    ∷ node_bytes 20 4 1 25 26 0
+    ∷ node_bytes 6 0 3 27 32 65535
+    ∷ node_bytes 40 5 1 27 28 0
+    ∷ node_bytes 20 4 1 31 32 0
     ∷ [])
     (value_of 0 (0x78 ∷ [])
     ∷ value_of 3 (0x01 ∷ [])
@@ -506,15 +506,15 @@ set_between version =
 abbrev pub loaded_later : ℕ → List ℕ
 loaded_later version =
     file_of version
-    (node_of 8 0 9 0 26 65535
-    ∷ node_of 6 0 3 0 5 65535
-    ∷ node_of 40 5 1 0 1 0
-    ∷ node_of 20 4 1 4 5 0
-    ∷ node_of 13 0 2 6 20 65535
-    ∷ node_of 47 0 1 16 19 0
-    ∷ node_of 6 0 3 21 26 65535
-    ∷ node_of 40 5 1 21 22 0
-    ∷ node_of 20 4 1 25 26 0
+    (node_bytes 8 0 9 0 26 65535
+    ∷ node_bytes 6 0 3 0 5 65535
+    ∷ node_bytes 40 5 1 0 1 0
+    ∷ node_bytes 20 4 1 4 5 0
+    ∷ node_bytes 13 0 2 6 20 65535
+    ∷ node_bytes 47 0 1 16 19 0
+    ∷ node_bytes 6 0 3 21 26 65535
+    ∷ node_bytes 40 5 1 21 22 0
+    ∷ node_bytes 20 4 1 25 26 0
     ∷ [])
     (value_of 0 (0x78 ∷ [])
     ∷ [])
@@ -529,25 +529,25 @@ loaded_later version =
 -- (values: log, rate, drift, night, nights, seeing)
 abbrev pub nightly : List (List ℕ)
 nightly =
-    node_of 8 0 19 0 78 65535
-    ∷ node_of 11 0 11 0 55 65535
-    ∷ node_of 40 5 1 4 9 3
-    ∷ node_of 20 4 1 13 19 4
-    ∷ node_of 8 1 8 25 55 65535
-    ∷ node_of 5 0 4 25 36 65535
-    ∷ node_of 23 4 3 25 36 65535
-    ∷ node_of 20 7 1 25 28 0
-    ∷ node_of 20 0 1 29 35 5
-    ∷ node_of 6 0 3 41 55 65535
-    ∷ node_of 40 5 1 41 47 5
-    ∷ node_of 20 4 1 50 55 3
-    ∷ node_of 5 0 4 56 65 65535
-    ∷ node_of 23 4 3 56 65 65535
-    ∷ node_of 20 7 1 56 59 0
-    ∷ node_of 20 0 1 60 64 1
-    ∷ node_of 6 0 3 66 78 65535
-    ∷ node_of 40 5 1 66 70 1
-    ∷ node_of 20 4 1 73 78 2
+    node_bytes 8 0 19 0 78 65535
+    ∷ node_bytes 11 0 11 0 55 65535
+    ∷ node_bytes 40 5 1 4 9 3
+    ∷ node_bytes 20 4 1 13 19 4
+    ∷ node_bytes 8 1 8 25 55 65535
+    ∷ node_bytes 5 0 4 25 36 65535
+    ∷ node_bytes 23 4 3 25 36 65535
+    ∷ node_bytes 20 7 1 25 28 0
+    ∷ node_bytes 20 0 1 29 35 5
+    ∷ node_bytes 6 0 3 41 55 65535
+    ∷ node_bytes 40 5 1 41 47 5
+    ∷ node_bytes 20 4 1 50 55 3
+    ∷ node_bytes 5 0 4 56 65 65535
+    ∷ node_bytes 23 4 3 56 65 65535
+    ∷ node_bytes 20 7 1 56 59 0
+    ∷ node_bytes 20 0 1 60 64 1
+    ∷ node_bytes 6 0 3 66 78 65535
+    ∷ node_bytes 40 5 1 66 70 1
+    ∷ node_bytes 20 4 1 73 78 2
     ∷ []
 
 abbrev pub nightly_values : List (List ℕ)
@@ -582,9 +582,9 @@ release_2 version = file_given_of version (0 ∷ 1 ∷ 2 ∷ 4 ∷ 5 ∷ []) nig
 abbrev pub value_first : List ℕ
 value_first =
     file
-    (node_of 6 0 3 0 1 65535
-    ∷ node_of 40 5 1 0 1 0
-    ∷ node_of 20 4 1 0 1 0
+    (node_bytes 6 0 3 0 1 65535
+    ∷ node_bytes 40 5 1 0 1 0
+    ∷ node_bytes 20 4 1 0 1 0
     ∷ [])
     (value_of 0 (0x78 ∷ [])
     ∷ [])
@@ -596,11 +596,11 @@ value_first =
 abbrev pub default_first : List ℕ
 default_first =
     file
-    (node_of 12 0 5 0 18 65535
-    ∷ node_of 40 6 1 4 5 0
-    ∷ node_of 43 0 2 6 7 1
-    ∷ node_of 20 0 1 6 7 1
-    ∷ node_of 3 1 1 14 18 65535
+    (node_bytes 12 0 5 0 18 65535
+    ∷ node_bytes 40 6 1 4 5 0
+    ∷ node_bytes 43 0 2 6 7 1
+    ∷ node_bytes 20 0 1 6 7 1
+    ∷ node_bytes 3 1 1 14 18 65535
     ∷ [])
     (value_of 0 (0x66 ∷ [])
     ∷ value_of 0 (0x78 ∷ [])
@@ -611,14 +611,14 @@ default_first =
 abbrev pub result_last : List ℕ
 result_last =
     file
-    (node_of 5 0 8 0 25 65535
-    ∷ node_of 25 4 7 0 25 65535
-    ∷ node_of 24 4 3 1 12 65535
-    ∷ node_of 43 0 1 8 9 0
-    ∷ node_of 21 1 1 11 12 2
-    ∷ node_of 45 0 3 13 24 65535
-    ∷ node_of 40 5 1 8 9 0
-    ∷ node_of 20 4 1 22 24 1
+    (node_bytes 5 0 8 0 25 65535
+    ∷ node_bytes 25 4 7 0 25 65535
+    ∷ node_bytes 24 4 3 1 12 65535
+    ∷ node_bytes 43 0 1 8 9 0
+    ∷ node_bytes 21 1 1 11 12 2
+    ∷ node_bytes 45 0 3 13 24 65535
+    ∷ node_bytes 40 5 1 8 9 0
+    ∷ node_bytes 20 4 1 22 24 1
     ∷ [])
     (value_of 0 (0x78 ∷ [])
     ∷ value_of 0 (0x78 ∷ 0x73 ∷ [])
@@ -749,11 +749,11 @@ accepts t = refuses 0 0 t
 -- statements in statements, n of them
 abbrev pub nested : ℕ → List (List ℕ)
 nested zero = []
-nested (suc n) = node_of 8 0 (suc n) 0 0 65535 ∷ nested n
+nested (suc n) = node_bytes 8 0 (suc n) 0 0 65535 ∷ nested n
 
 -- a file of one pass and one value
 abbrev pub of_value : List ℕ → List ℕ
-of_value v = file (node_of 3 0 1 0 0 65535 ∷ []) (v ∷ [])
+of_value v = file (node_bytes 3 0 1 0 0 65535 ∷ []) (v ∷ [])
 
 -- Under 11 bytes: 1. "versions other than 1 and 2" (02, §9): 2. "nodes 0 or over 1,024; values over 512; globals over 512 and not 65535": 3;
 -- at their numbers these headers, with nothing after them, are refused for their sections only. A value of 255 bytes and of 256, an integer

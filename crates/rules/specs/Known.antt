@@ -4,7 +4,7 @@ use Rattle.std.specs.Prelude.{ℕ, Bool, true, false, ◌&&◌, List, [], ◌∷
 use Rattle.tree.specs.declared.Mode.{Mode}
 use Rattle.tree.specs.declared.Mode.TheVariants.{Ordinary, Strict}
 use Rattle.tree.specs.Bytes.{same_bytes}
-use Rattle.tree.specs.Written.{node_of, value_of, file_of, file}
+use Rattle.tree.specs.Written.{node_bytes, value_of, file_of, file}
 use Rattle.tree.specs.Judge.{judged}
 use Rattle.tree.specs.declared.Judged.{Judged}
 use Rattle.tree.specs.declared.Judged.TheVariants.{Valid, Refused}
@@ -17,7 +17,7 @@ use Rattle.rules.specs.Joined.{lint_list}
 abbrev pub empty : List ℕ
 empty =
     file
-    (node_of 8 0 1 0 0 65535
+    (node_bytes 8 0 1 0 0 65535
     ∷ [])
     []
 
@@ -28,18 +28,18 @@ empty =
 abbrev pub looped : List ℕ
 looped =
     file
-    (node_of 8 0 12 0 32 65535
-    ∷ node_of 11 0 11 0 31 65535
-    ∷ node_of 40 5 1 4 5 1
-    ∷ node_of 20 4 1 9 11 2
-    ∷ node_of 8 1 8 15 31 65535
-    ∷ node_of 5 0 4 15 23 65535
-    ∷ node_of 23 4 3 15 23 65535
-    ∷ node_of 20 7 1 15 20 3
-    ∷ node_of 20 0 1 21 22 0
-    ∷ node_of 6 0 3 26 31 65535
-    ∷ node_of 40 5 1 26 27 0
-    ∷ node_of 21 4 1 30 31 4
+    (node_bytes 8 0 12 0 32 65535
+    ∷ node_bytes 11 0 11 0 31 65535
+    ∷ node_bytes 40 5 1 4 5 1
+    ∷ node_bytes 20 4 1 9 11 2
+    ∷ node_bytes 8 1 8 15 31 65535
+    ∷ node_bytes 5 0 4 15 23 65535
+    ∷ node_bytes 23 4 3 15 23 65535
+    ∷ node_bytes 20 7 1 15 20 3
+    ∷ node_bytes 20 0 1 21 22 0
+    ∷ node_bytes 6 0 3 26 31 65535
+    ∷ node_bytes 40 5 1 26 27 0
+    ∷ node_bytes 21 4 1 30 31 4
     ∷ [])
     (value_of 0 (0x61 ∷ [])
     ∷ value_of 0 (0x69 ∷ [])
@@ -59,23 +59,23 @@ looped =
 abbrev pub both_return : List ℕ
 both_return =
     file
-    (node_of 8 0 17 0 66 65535
-    ∷ node_of 12 0 16 0 65 65535
-    ∷ node_of 40 6 1 4 5 1
-    ∷ node_of 8 1 14 11 65 65535
-    ∷ node_of 10 0 9 11 56 65535
-    ∷ node_of 20 4 1 14 15 0
-    ∷ node_of 8 1 5 21 37 65535
-    ∷ node_of 6 0 3 21 26 65535
-    ∷ node_of 40 5 1 21 22 2
-    ∷ node_of 21 4 1 25 26 4
-    ∷ node_of 4 0 1 31 37 65535
-    ∷ node_of 8 2 2 50 56 65535
-    ∷ node_of 4 0 1 50 56 65535
-    ∷ node_of 5 0 4 59 65 65535
-    ∷ node_of 23 4 3 59 65 65535
-    ∷ node_of 20 7 1 59 62 3
-    ∷ node_of 20 0 1 63 64 2
+    (node_bytes 8 0 17 0 66 65535
+    ∷ node_bytes 12 0 16 0 65 65535
+    ∷ node_bytes 40 6 1 4 5 1
+    ∷ node_bytes 8 1 14 11 65 65535
+    ∷ node_bytes 10 0 9 11 56 65535
+    ∷ node_bytes 20 4 1 14 15 0
+    ∷ node_bytes 8 1 5 21 37 65535
+    ∷ node_bytes 6 0 3 21 26 65535
+    ∷ node_bytes 40 5 1 21 22 2
+    ∷ node_bytes 21 4 1 25 26 4
+    ∷ node_bytes 4 0 1 31 37 65535
+    ∷ node_bytes 8 2 2 50 56 65535
+    ∷ node_bytes 4 0 1 50 56 65535
+    ∷ node_bytes 5 0 4 59 65 65535
+    ∷ node_bytes 23 4 3 59 65 65535
+    ∷ node_bytes 20 7 1 59 62 3
+    ∷ node_bytes 20 0 1 63 64 2
     ∷ [])
     (value_of 0 (0x63 ∷ [])
     ∷ value_of 0 (0x66 ∷ [])
@@ -90,13 +90,13 @@ both_return =
 abbrev pub set_twice : List ℕ
 set_twice =
     file
-    (node_of 8 0 7 0 12 65535
-    ∷ node_of 6 0 3 0 5 65535
-    ∷ node_of 40 5 1 0 1 0
-    ∷ node_of 21 4 1 4 5 1
-    ∷ node_of 6 0 3 6 11 65535
-    ∷ node_of 40 5 1 6 7 0
-    ∷ node_of 21 4 1 10 11 2
+    (node_bytes 8 0 7 0 12 65535
+    ∷ node_bytes 6 0 3 0 5 65535
+    ∷ node_bytes 40 5 1 0 1 0
+    ∷ node_bytes 21 4 1 4 5 1
+    ∷ node_bytes 6 0 3 6 11 65535
+    ∷ node_bytes 40 5 1 6 7 0
+    ∷ node_bytes 21 4 1 10 11 2
     ∷ [])
     (value_of 0 (0x78 ∷ [])
     ∷ value_of 3 (0x01 ∷ [])
@@ -108,15 +108,15 @@ set_twice =
 abbrev pub three_ones : List ℕ
 three_ones =
     file
-    (node_of 6 0 9 0 24 65535
-    ∷ node_of 40 5 1 0 1 0
-    ∷ node_of 29 4 7 4 24 65535
-    ∷ node_of 21 8 1 5 6 2
-    ∷ node_of 21 4 1 8 9 1
-    ∷ node_of 21 8 1 11 14 3
-    ∷ node_of 21 4 1 16 17 1
-    ∷ node_of 21 8 1 19 20 2
-    ∷ node_of 21 4 1 22 23 1
+    (node_bytes 6 0 9 0 24 65535
+    ∷ node_bytes 40 5 1 0 1 0
+    ∷ node_bytes 29 4 7 4 24 65535
+    ∷ node_bytes 21 8 1 5 6 2
+    ∷ node_bytes 21 4 1 8 9 1
+    ∷ node_bytes 21 8 1 11 14 3
+    ∷ node_bytes 21 4 1 16 17 1
+    ∷ node_bytes 21 8 1 19 20 2
+    ∷ node_bytes 21 4 1 22 23 1
     ∷ [])
     (value_of 0 (0x64 ∷ [])
     ∷ value_of 3 []
@@ -129,13 +129,13 @@ three_ones =
 abbrev pub large_keys : List ℕ
 large_keys =
     file
-    (node_of 6 0 7 0 29 65535
-    ∷ node_of 40 5 1 0 1 0
-    ∷ node_of 29 4 5 4 29 65535
-    ∷ node_of 21 8 1 5 16 2
-    ∷ node_of 21 4 1 18 19 1
-    ∷ node_of 21 8 1 21 25 3
-    ∷ node_of 21 4 1 27 28 1
+    (node_bytes 6 0 7 0 29 65535
+    ∷ node_bytes 40 5 1 0 1 0
+    ∷ node_bytes 29 4 5 4 29 65535
+    ∷ node_bytes 21 8 1 5 16 2
+    ∷ node_bytes 21 4 1 18 19 1
+    ∷ node_bytes 21 8 1 21 25 3
+    ∷ node_bytes 21 4 1 27 28 1
     ∷ [])
     (value_of 0 (0x64 ∷ [])
     ∷ value_of 3 []
@@ -150,15 +150,15 @@ large_keys =
 abbrev pub loaded : ℕ → List ℕ
 loaded version =
     file_of version
-    (node_of 8 0 9 0 27 65535
-    ∷ node_of 13 0 2 0 14 65535
-    ∷ node_of 47 0 1 10 13 0
-    ∷ node_of 6 0 3 15 20 65535
-    ∷ node_of 40 5 1 15 16 0
-    ∷ node_of 20 4 1 19 20 0
-    ∷ node_of 6 0 3 21 26 65535
-    ∷ node_of 40 5 1 21 22 0
-    ∷ node_of 20 4 1 25 26 0
+    (node_bytes 8 0 9 0 27 65535
+    ∷ node_bytes 13 0 2 0 14 65535
+    ∷ node_bytes 47 0 1 10 13 0
+    ∷ node_bytes 6 0 3 15 20 65535
+    ∷ node_bytes 40 5 1 15 16 0
+    ∷ node_bytes 20 4 1 19 20 0
+    ∷ node_bytes 6 0 3 21 26 65535
+    ∷ node_bytes 40 5 1 21 22 0
+    ∷ node_bytes 20 4 1 25 26 0
     ∷ [])
     (value_of 0 (0x78 ∷ [])
     ∷ [])
@@ -170,14 +170,14 @@ loaded version =
 abbrev pub some_return : List ℕ
 some_return =
     file
-    (node_of 8 0 8 0 38 65535
-    ∷ node_of 12 0 7 0 37 65535
-    ∷ node_of 40 6 1 4 5 1
-    ∷ node_of 20 3 1 11 15 2
-    ∷ node_of 9 1 4 19 37 65535
-    ∷ node_of 20 4 1 22 23 0
-    ∷ node_of 4 1 2 29 37 65535
-    ∷ node_of 21 4 1 36 37 3
+    (node_bytes 8 0 8 0 38 65535
+    ∷ node_bytes 12 0 7 0 37 65535
+    ∷ node_bytes 40 6 1 4 5 1
+    ∷ node_bytes 20 3 1 11 15 2
+    ∷ node_bytes 9 1 4 19 37 65535
+    ∷ node_bytes 20 4 1 22 23 0
+    ∷ node_bytes 4 1 2 29 37 65535
+    ∷ node_bytes 21 4 1 36 37 3
     ∷ [])
     (value_of 0 (0x63 ∷ [])
     ∷ value_of 0 (0x67 ∷ [])

@@ -2,7 +2,7 @@
 use Rattle.std.specs.Prelude.{ℕ, Bool, true, ◌&&◌, List, [], ◌∷◌}
 use Rattle.tree.specs.declared.Mode.{Mode}
 use Rattle.tree.specs.Bytes.{same_bytes}
-use Rattle.tree.specs.Written.{node_of, value_of, file}
+use Rattle.tree.specs.Written.{node_bytes, value_of, file}
 use Rattle.tree.specs.Judge.{judged}
 use Rattle.rules.specs.Record.{all_words}
 use Rattle.rules.specs.Profile.{profile_list}
@@ -31,30 +31,30 @@ use Rattle.rules.specs.Known.{is_valid}
 abbrev pub flows : List ℕ
 flows =
     file
-    (node_of 8 0 24 0 184 65535
-    ∷ node_of 9 0 3 0 14 65535
-    ∷ node_of 20 4 1 3 4 0
-    ∷ node_of 3 1 1 10 14 65535
-    ∷ node_of 11 0 7 15 73 65535
-    ∷ node_of 40 5 1 19 20 2
-    ∷ node_of 20 4 1 24 26 3
-    ∷ node_of 10 1 4 32 73 65535
-    ∷ node_of 20 4 1 35 36 0
-    ∷ node_of 3 1 1 46 50 65535
-    ∷ node_of 3 2 1 69 73 65535
-    ∷ node_of 12 0 13 74 184 65535
-    ∷ node_of 40 6 1 78 79 1
-    ∷ node_of 8 1 11 87 184 65535
-    ∷ node_of 9 0 3 87 105 65535
-    ∷ node_of 20 4 1 90 91 0
-    ∷ node_of 3 1 1 101 105 65535
-    ∷ node_of 11 0 7 110 184 65535
-    ∷ node_of 40 5 1 114 115 2
-    ∷ node_of 20 4 1 119 121 3
-    ∷ node_of 10 1 4 131 184 65535
-    ∷ node_of 20 4 1 134 135 0
-    ∷ node_of 3 1 1 149 153 65535
-    ∷ node_of 3 2 1 180 184 65535
+    (node_bytes 8 0 24 0 184 65535
+    ∷ node_bytes 9 0 3 0 14 65535
+    ∷ node_bytes 20 4 1 3 4 0
+    ∷ node_bytes 3 1 1 10 14 65535
+    ∷ node_bytes 11 0 7 15 73 65535
+    ∷ node_bytes 40 5 1 19 20 2
+    ∷ node_bytes 20 4 1 24 26 3
+    ∷ node_bytes 10 1 4 32 73 65535
+    ∷ node_bytes 20 4 1 35 36 0
+    ∷ node_bytes 3 1 1 46 50 65535
+    ∷ node_bytes 3 2 1 69 73 65535
+    ∷ node_bytes 12 0 13 74 184 65535
+    ∷ node_bytes 40 6 1 78 79 1
+    ∷ node_bytes 8 1 11 87 184 65535
+    ∷ node_bytes 9 0 3 87 105 65535
+    ∷ node_bytes 20 4 1 90 91 0
+    ∷ node_bytes 3 1 1 101 105 65535
+    ∷ node_bytes 11 0 7 110 184 65535
+    ∷ node_bytes 40 5 1 114 115 2
+    ∷ node_bytes 20 4 1 119 121 3
+    ∷ node_bytes 10 1 4 131 184 65535
+    ∷ node_bytes 20 4 1 134 135 0
+    ∷ node_bytes 3 1 1 149 153 65535
+    ∷ node_bytes 3 2 1 180 184 65535
     ∷ [])
     (value_of 0 (0x63 ∷ [])
     ∷ value_of 0 (0x66 ∷ [])
@@ -73,19 +73,19 @@ flows =
 abbrev pub returns : List ℕ
 returns =
     file
-    (node_of 8 0 13 0 78 65535
-    ∷ node_of 4 0 1 0 6 65535
-    ∷ node_of 12 0 3 7 26 65535
-    ∷ node_of 40 6 1 11 12 0
-    ∷ node_of 4 1 1 20 26 65535
-    ∷ node_of 11 0 8 27 78 65535
-    ∷ node_of 40 5 1 31 32 2
-    ∷ node_of 20 4 1 36 38 3
-    ∷ node_of 8 1 5 44 78 65535
-    ∷ node_of 12 0 3 44 67 65535
-    ∷ node_of 40 6 1 48 49 1
-    ∷ node_of 4 1 1 61 67 65535
-    ∷ node_of 4 0 1 72 78 65535
+    (node_bytes 8 0 13 0 78 65535
+    ∷ node_bytes 4 0 1 0 6 65535
+    ∷ node_bytes 12 0 3 7 26 65535
+    ∷ node_bytes 40 6 1 11 12 0
+    ∷ node_bytes 4 1 1 20 26 65535
+    ∷ node_bytes 11 0 8 27 78 65535
+    ∷ node_bytes 40 5 1 31 32 2
+    ∷ node_bytes 20 4 1 36 38 3
+    ∷ node_bytes 8 1 5 44 78 65535
+    ∷ node_bytes 12 0 3 44 67 65535
+    ∷ node_bytes 40 6 1 48 49 1
+    ∷ node_bytes 4 1 1 61 67 65535
+    ∷ node_bytes 4 0 1 72 78 65535
     ∷ [])
     (value_of 0 (0x66 ∷ [])
     ∷ value_of 0 (0x67 ∷ [])
@@ -107,25 +107,25 @@ returns =
 abbrev pub jumps : List ℕ
 jumps =
     file
-    (node_of 8 0 19 0 133 65535
-    ∷ node_of 1 0 1 0 5 65535
-    ∷ node_of 11 0 16 6 124 65535
-    ∷ node_of 40 5 1 10 11 2
-    ∷ node_of 20 4 1 15 17 4
-    ∷ node_of 8 1 13 23 124 65535
-    ∷ node_of 9 0 3 23 45 65535
-    ∷ node_of 20 4 1 26 27 0
-    ∷ node_of 2 1 1 37 45 65535
-    ∷ node_of 12 0 8 50 114 65535
-    ∷ node_of 40 6 1 54 55 1
-    ∷ node_of 8 1 6 67 114 65535
-    ∷ node_of 1 0 1 67 72 65535
-    ∷ node_of 11 0 4 81 114 65535
-    ∷ node_of 40 5 1 85 86 3
-    ∷ node_of 20 4 1 90 92 4
-    ∷ node_of 2 1 1 106 114 65535
-    ∷ node_of 1 0 1 119 124 65535
-    ∷ node_of 2 0 1 125 133 65535
+    (node_bytes 8 0 19 0 133 65535
+    ∷ node_bytes 1 0 1 0 5 65535
+    ∷ node_bytes 11 0 16 6 124 65535
+    ∷ node_bytes 40 5 1 10 11 2
+    ∷ node_bytes 20 4 1 15 17 4
+    ∷ node_bytes 8 1 13 23 124 65535
+    ∷ node_bytes 9 0 3 23 45 65535
+    ∷ node_bytes 20 4 1 26 27 0
+    ∷ node_bytes 2 1 1 37 45 65535
+    ∷ node_bytes 12 0 8 50 114 65535
+    ∷ node_bytes 40 6 1 54 55 1
+    ∷ node_bytes 8 1 6 67 114 65535
+    ∷ node_bytes 1 0 1 67 72 65535
+    ∷ node_bytes 11 0 4 81 114 65535
+    ∷ node_bytes 40 5 1 85 86 3
+    ∷ node_bytes 20 4 1 90 92 4
+    ∷ node_bytes 2 1 1 106 114 65535
+    ∷ node_bytes 1 0 1 119 124 65535
+    ∷ node_bytes 2 0 1 125 133 65535
     ∷ [])
     (value_of 0 (0x63 ∷ [])
     ∷ value_of 0 (0x66 ∷ [])
@@ -146,28 +146,28 @@ jumps =
 abbrev pub loads : List ℕ
 loads =
     file
-    (node_of 8 0 22 0 126 65535
-    ∷ node_of 13 0 2 0 14 65535
-    ∷ node_of 47 0 1 10 13 3
-    ∷ node_of 8 0 4 15 35 65535
-    ∷ node_of 3 0 1 15 19 65535
-    ∷ node_of 13 0 2 21 35 65535
-    ∷ node_of 47 0 1 31 34 3
-    ∷ node_of 9 0 6 36 66 65535
-    ∷ node_of 20 4 1 39 40 0
-    ∷ node_of 8 1 4 46 66 65535
-    ∷ node_of 13 0 2 46 60 65535
-    ∷ node_of 47 0 1 56 59 3
-    ∷ node_of 3 0 1 62 66 65535
-    ∷ node_of 12 0 4 67 94 65535
-    ∷ node_of 40 6 1 71 72 1
-    ∷ node_of 13 1 2 80 94 65535
-    ∷ node_of 47 0 1 90 93 3
-    ∷ node_of 11 0 5 95 126 65535
-    ∷ node_of 40 5 1 99 100 2
-    ∷ node_of 20 4 1 104 106 4
-    ∷ node_of 13 1 2 112 126 65535
-    ∷ node_of 47 0 1 122 125 3
+    (node_bytes 8 0 22 0 126 65535
+    ∷ node_bytes 13 0 2 0 14 65535
+    ∷ node_bytes 47 0 1 10 13 3
+    ∷ node_bytes 8 0 4 15 35 65535
+    ∷ node_bytes 3 0 1 15 19 65535
+    ∷ node_bytes 13 0 2 21 35 65535
+    ∷ node_bytes 47 0 1 31 34 3
+    ∷ node_bytes 9 0 6 36 66 65535
+    ∷ node_bytes 20 4 1 39 40 0
+    ∷ node_bytes 8 1 4 46 66 65535
+    ∷ node_bytes 13 0 2 46 60 65535
+    ∷ node_bytes 47 0 1 56 59 3
+    ∷ node_bytes 3 0 1 62 66 65535
+    ∷ node_bytes 12 0 4 67 94 65535
+    ∷ node_bytes 40 6 1 71 72 1
+    ∷ node_bytes 13 1 2 80 94 65535
+    ∷ node_bytes 47 0 1 90 93 3
+    ∷ node_bytes 11 0 5 95 126 65535
+    ∷ node_bytes 40 5 1 99 100 2
+    ∷ node_bytes 20 4 1 104 106 4
+    ∷ node_bytes 13 1 2 112 126 65535
+    ∷ node_bytes 47 0 1 122 125 3
     ∷ [])
     (value_of 0 (0x63 ∷ [])
     ∷ value_of 0 (0x66 ∷ [])
@@ -183,26 +183,26 @@ loads =
 abbrev pub parameters : List ℕ
 parameters =
     file
-    (node_of 8 0 20 0 66 65535
-    ∷ node_of 12 0 12 0 44 65535
-    ∷ node_of 40 6 1 4 5 0
-    ∷ node_of 43 0 1 6 7 0
-    ∷ node_of 43 0 4 9 10 1
-    ∷ node_of 24 0 3 11 22 65535
-    ∷ node_of 43 0 1 18 19 0
-    ∷ node_of 20 1 1 21 22 0
-    ∷ node_of 43 0 2 24 25 0
-    ∷ node_of 21 0 1 26 27 2
-    ∷ node_of 44 0 1 29 30 65535
-    ∷ node_of 43 0 1 32 33 0
-    ∷ node_of 3 1 1 40 44 65535
-    ∷ node_of 6 0 7 45 66 65535
-    ∷ node_of 40 5 1 45 46 1
-    ∷ node_of 24 4 5 49 66 65535
-    ∷ node_of 43 0 1 56 57 0
-    ∷ node_of 43 0 1 59 60 1
-    ∷ node_of 43 0 1 62 63 0
-    ∷ node_of 20 1 1 65 66 0
+    (node_bytes 8 0 20 0 66 65535
+    ∷ node_bytes 12 0 12 0 44 65535
+    ∷ node_bytes 40 6 1 4 5 0
+    ∷ node_bytes 43 0 1 6 7 0
+    ∷ node_bytes 43 0 4 9 10 1
+    ∷ node_bytes 24 0 3 11 22 65535
+    ∷ node_bytes 43 0 1 18 19 0
+    ∷ node_bytes 20 1 1 21 22 0
+    ∷ node_bytes 43 0 2 24 25 0
+    ∷ node_bytes 21 0 1 26 27 2
+    ∷ node_bytes 44 0 1 29 30 65535
+    ∷ node_bytes 43 0 1 32 33 0
+    ∷ node_bytes 3 1 1 40 44 65535
+    ∷ node_bytes 6 0 7 45 66 65535
+    ∷ node_bytes 40 5 1 45 46 1
+    ∷ node_bytes 24 4 5 49 66 65535
+    ∷ node_bytes 43 0 1 56 57 0
+    ∷ node_bytes 43 0 1 59 60 1
+    ∷ node_bytes 43 0 1 62 63 0
+    ∷ node_bytes 20 1 1 65 66 0
     ∷ [])
     (value_of 0 (0x61 ∷ [])
     ∷ value_of 0 (0x62 ∷ [])
@@ -228,49 +228,49 @@ parameters =
 abbrev pub partners : List ℕ
 partners =
     file
-    (node_of 8 0 43 56 345 65535
-    ∷ node_of 13 0 3 56 97 65535
-    ∷ node_of 47 0 1 75 85 6
-    ∷ node_of 47 0 1 87 96 5
-    ∷ node_of 12 0 16 99 191 65535
-    ∷ node_of 40 6 1 103 107 2
-    ∷ node_of 43 0 1 108 113 3
-    ∷ node_of 43 0 1 115 119 1
-    ∷ node_of 43 0 1 121 126 3
-    ∷ node_of 8 1 11 133 191 65535
-    ∷ node_of 9 0 4 133 163 65535
-    ∷ node_of 33 4 2 136 145 65535
-    ∷ node_of 20 0 1 136 141 3
-    ∷ node_of 2 1 1 155 163 65535
-    ∷ node_of 5 0 6 168 191 65535
-    ∷ node_of 23 4 5 168 191 65535
-    ∷ node_of 20 7 1 168 173 4
-    ∷ node_of 33 0 2 174 184 65535
-    ∷ node_of 20 0 1 174 179 3
-    ∷ node_of 20 0 1 186 190 1
-    ∷ node_of 11 0 21 193 328 65535
-    ∷ node_of 40 5 1 197 202 3
-    ∷ node_of 20 4 1 206 213 5
-    ∷ node_of 8 1 18 219 328 65535
-    ∷ node_of 9 0 11 219 295 65535
-    ∷ node_of 33 4 2 222 232 65535
-    ∷ node_of 20 0 1 222 227 3
-    ∷ node_of 8 1 8 242 295 65535
-    ∷ node_of 13 0 2 242 267 65535
-    ∷ node_of 47 0 1 260 266 0
-    ∷ node_of 6 0 5 276 295 65535
-    ∷ node_of 40 5 1 276 281 3
-    ∷ node_of 23 4 3 284 295 65535
-    ∷ node_of 20 7 1 284 288 0
-    ∷ node_of 20 0 1 289 294 3
-    ∷ node_of 5 0 6 300 328 65535
-    ∷ node_of 23 4 5 300 328 65535
-    ∷ node_of 20 7 1 300 304 2
-    ∷ node_of 20 0 1 305 310 3
-    ∷ node_of 20 0 1 312 320 6
-    ∷ node_of 20 0 1 322 327 3
-    ∷ node_of 4 0 2 330 345 65535
-    ∷ node_of 20 4 1 337 345 6
+    (node_bytes 8 0 43 56 345 65535
+    ∷ node_bytes 13 0 3 56 97 65535
+    ∷ node_bytes 47 0 1 75 85 6
+    ∷ node_bytes 47 0 1 87 96 5
+    ∷ node_bytes 12 0 16 99 191 65535
+    ∷ node_bytes 40 6 1 103 107 2
+    ∷ node_bytes 43 0 1 108 113 3
+    ∷ node_bytes 43 0 1 115 119 1
+    ∷ node_bytes 43 0 1 121 126 3
+    ∷ node_bytes 8 1 11 133 191 65535
+    ∷ node_bytes 9 0 4 133 163 65535
+    ∷ node_bytes 33 4 2 136 145 65535
+    ∷ node_bytes 20 0 1 136 141 3
+    ∷ node_bytes 2 1 1 155 163 65535
+    ∷ node_bytes 5 0 6 168 191 65535
+    ∷ node_bytes 23 4 5 168 191 65535
+    ∷ node_bytes 20 7 1 168 173 4
+    ∷ node_bytes 33 0 2 174 184 65535
+    ∷ node_bytes 20 0 1 174 179 3
+    ∷ node_bytes 20 0 1 186 190 1
+    ∷ node_bytes 11 0 21 193 328 65535
+    ∷ node_bytes 40 5 1 197 202 3
+    ∷ node_bytes 20 4 1 206 213 5
+    ∷ node_bytes 8 1 18 219 328 65535
+    ∷ node_bytes 9 0 11 219 295 65535
+    ∷ node_bytes 33 4 2 222 232 65535
+    ∷ node_bytes 20 0 1 222 227 3
+    ∷ node_bytes 8 1 8 242 295 65535
+    ∷ node_bytes 13 0 2 242 267 65535
+    ∷ node_bytes 47 0 1 260 266 0
+    ∷ node_bytes 6 0 5 276 295 65535
+    ∷ node_bytes 40 5 1 276 281 3
+    ∷ node_bytes 23 4 3 284 295 65535
+    ∷ node_bytes 20 7 1 284 288 0
+    ∷ node_bytes 20 0 1 289 294 3
+    ∷ node_bytes 5 0 6 300 328 65535
+    ∷ node_bytes 23 4 5 300 328 65535
+    ∷ node_bytes 20 7 1 300 304 2
+    ∷ node_bytes 20 0 1 305 310 3
+    ∷ node_bytes 20 0 1 312 320 6
+    ∷ node_bytes 20 0 1 322 327 3
+    ∷ node_bytes 4 0 2 330 345 65535
+    ∷ node_bytes 20 4 1 337 345 6
     ∷ [])
     (value_of 0 (0x66 ∷ 0x61 ∷ 0x73 ∷ 0x74 ∷ [])
     ∷ value_of 0 (0x72 ∷ 0x61 ∷ 0x74 ∷ 0x65 ∷ [])
