@@ -19,8 +19,9 @@ def norm(s):
 
 
 class Lts:
-    def __init__(self, d):
+    def __init__(self, d, cycle=False):
         self.d = d
+        self.cycle = cycle
         self.places = {p[0]: (i, p) for i, p in enumerate(d["places"])}
         self.needs = {}
         for (old, new), at in zip(d["needs"], d["asked_at"]):
@@ -54,6 +55,9 @@ class Lts:
                 for new, step, old in arm[2]:
                     if norm(step) == norm(f) and path[1 : 1 + len(old)] == old and old:
                         return [arm[0], new] + path[1 + len(old) :]
+                for new, step, old in arm[2]:
+                    if norm(step) == norm(f) and not old and len(path) > 1:
+                        return [arm[0], new] + path[1:]
             step, rest = p[2][1], path[1:]
             if rest[:1] in (["new"], ["auto"]) and len(rest) > 1 and p[3] in self.d["params"]:
                 ps = self.d["params"][p[3]]
@@ -63,6 +67,12 @@ class Lts:
                 if j < len(rest) and rest[j] == "0" and k < len(ps):
                     rest = [rest[0], ps[k]] + rest[j + 1 :]
             return [step] + rest
+        if f == "well-formed":
+            return ["well_formed"] + path[1:]
+        if f == "requires" and self.cycle:
+            if path[1:2] == ["0"]:
+                return ["decreases"] + path[2:]
+            return ["requires"] + path[2:] if path[1:2] == ["1"] else None
         if f in ("args", "ranges", "requires", "well-formed", "well_formed", "lifetimes"):
             out = path
             text = "".join(" ." + x for x in out)
@@ -125,7 +135,7 @@ def turned(path, names, module, folder):
     uses, invs, answers, others, left, heads = {}, [], [], [], [], []
     local = {}
     if cyc:
-        ltss = {k.rsplit(".Lts", 1)[1].lstrip("-"): Lts(v) for k, v in names.items() if k.startswith(module + ".Lts")}
+        ltss = {k.rsplit(".Lts", 1)[1].lstrip("-"): Lts(v, True) for k, v in names.items() if k.startswith(module + ".Lts")}
     else:
         ltss = {"": Lts(names[module + ".Lts"])} if module + ".Lts" in names else {}
     if not ltss:
@@ -303,9 +313,6 @@ def main():
                 continue
             head = "" if kind == "Invariants" and answers else "".join(h + "\n" for h in heads)
             body = "\n\n".join("".join(x + "\n" for x in c) + b for c, b in items)
-            if kind == "Answers":
-                for a, b in local.items():
-                    body = re.sub(rf"(?<![\w.'-]){re.escape(a)}(?![\w'-])", b, body) if re.search(rf"(?<![\w.'-]){re.escape(a)}(?![\w'-])", body) and a not in ("returns",) and a != b and len(a) > 12 else body
             open(os.path.join(folder, kind + ".antt"), "w", encoding="utf-8").write(head + imports + f"use {mod}.{'Given' if kind == 'Invariants' else 'Goals'} as goal\n\n" + body + "\n")
             made.append(kind)
         os.remove(os.path.join(folder, "Proof.antt"))

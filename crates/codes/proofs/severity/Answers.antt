@@ -23,10 +23,10 @@ returns-in-11 c = rw c.in-11.is
 pub returns-in_default : goal.returns-in_default
 returns-in_default c =
     rw (
-      ne_eqb c.args.code 1 c.in_default.rest.0.0.0.0.0.1,
-      ne_eqb c.args.code 2 c.in_default.rest.0.0.0.0.1,
-      ne_eqb c.args.code 3 c.in_default.rest.0.0.0.1,
-      ne_eqb c.args.code 5 c.in_default.rest.0.0.1,
-      ne_eqb c.args.code 10 c.in_default.rest.0.1,
-      ne_eqb c.args.code 11 c.in_default.rest.1,
+      ne_eqb c.args.code 1 c.in_default.in_default-own.rest.0.0.0.0.0.1,
+      ne_eqb c.args.code 2 c.in_default.in_default-own.rest.0.0.0.0.1,
+      ne_eqb c.args.code 3 c.in_default.in_default-own.rest.0.0.0.1,
+      ne_eqb c.args.code 5 c.in_default.in_default-own.rest.0.0.1,
+      ne_eqb c.args.code 10 c.in_default.in_default-own.rest.0.1,
+      ne_eqb c.args.code 11 c.in_default.in_default-own.rest.1,
     )

@@ -29,8 +29,8 @@ returns-then-out-records c =
     let z = short_done t _ v (dubious_list c.args.mode t) few o c.args.tally _ _ c.started.result c.lint-c.result c.started.ensures.0 (c.lint-c.ensures ∙ ap (writes _) (sym l)) c.refused.result h c.refused.ensures.0 (c.refused.ensures.1 ∙ no_counts c.args.tally (search rules)) in
     rw q z
 
-pub lint-c-requires : goal.lint-requires
-lint-c-requires c = whole c.args.t.now _ (c.requires)
+pub lint-requires : goal.lint-requires
+lint-requires c = whole c.args.t.now _ (c.requires)
 
 pub returns : goal.returns
 returns c =

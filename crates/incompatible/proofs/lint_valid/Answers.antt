@@ -29,11 +29,11 @@ returns-then-out-records c =
     let h : length o / width < c.lint-c.result.count = rw q at c.if-out-records.true in
     let l = rw (← c.of-allowed.ensures) at (list_is t _ v (λ k. omega (arith, c.shared_slice_known-1.given k)) c.types_of-names.result c.types_of-names.ensures) in
     let few = list_few t _ v in
-    let z = short_done t _ v (incompatible_list t) few o c.args.tally _ _ c.started.result c.lint-c.result c.started.ensures.0 (c.lint-c.ensures ∙ ap (writes _) (sym l)) c.refused.result h c.refused.ensures.0 (c.refused.ensures.1 ∙ no_counts c.args.tally (search (rules, c.well-formed))) in
+    let z = short_done t _ v (incompatible_list t) few o c.args.tally _ _ c.started.result c.lint-c.result c.started.ensures.0 (c.lint-c.ensures ∙ ap (writes _) (sym l)) c.refused.result h c.refused.ensures.0 (c.refused.ensures.1 ∙ no_counts c.args.tally (search (rules, c.well_formed))) in
     rw q z
 
-pub lint-c-requires : goal.lint-requires
-lint-c-requires c =
+pub lint-requires : goal.lint-requires
+lint-requires c =
     let t = c.args.t.now in
     let v = c.requires in
     (whole t _ v, low_names t _ v)

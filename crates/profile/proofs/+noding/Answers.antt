@@ -19,18 +19,18 @@ use Rattle.tree.proofs.bytes.size_at.Reads as size-at-reads
 use Rattle.profile.proofs.+noding.Goals as goal
 
 pub node-own-so_far-requires : goal.node-own-so_far-requires
-node-own-so_far-requires t c = c.requires.1.0
+node-own-so_far-requires t c = c.requires.0
 
 pub node-overflow_add-e : goal.node-overflow_add-e
-node-overflow_add-e t c = omega (arith, c.requires.1.1.part.few, c.size_at.ensures.0)
+node-overflow_add-e t c = omega (arith, c.requires.1.part.few, c.size_at.ensures.0)
 
 pub node-overflow_add-j : goal.node-overflow_add-j
-node-overflow_add-j t c = omega (arith, c.requires.1.1.part.few)
+node-overflow_add-j t c = omega (arith, c.requires.1.part.few)
 
 pub node-nodes-requires : goal.node-nodes-requires
 node-nodes-requires t c =
-    let w = c.requires.1.1 in
-    rw c.size_at.ensures.0 (omega (arith, c.requires.0, w.some), (whole_kids w, omega (arith, w.some)))
+    let w = c.requires.1 in
+    rw c.size_at.ensures.0 (omega (arith, c.decreases, w.some), (whole_kids w, omega (arith, w.some)))
 
 pub node-returns : goal.node-returns
 node-returns t c =
@@ -39,14 +39,14 @@ node-returns t c =
 pub nodes-loop-j-init : goal.nodes-loop-j-init
 nodes-loop-j-init t c =
     let a = c.args in
-    let p = c.requires.1 in
+    let p = c.requires in
     (empty a.t.now a.i p.0 p.1, p.0, omega arith, p.1, rw (walk_start a.a a.t.now a.i a.e) (gone _ _))
 
 pub nodes-node-so_far-requires : goal.nodes-node-so_far-requires
 nodes-node-so_far-requires t c =
     let l = c.loop-j in
     let lt = c.loop-j-test.true in
-    (omega (arith, c.requires.0, ended l.invariant.1 lt, l.invariant.2), (l.invariant.0, whole_at l.invariant.1 lt))
+    (omega (arith, c.decreases, ended l.invariant.1 lt, l.invariant.2), (l.invariant.0, whole_at l.invariant.1 lt))
 
 pub nodes-overflow_add-j : goal.nodes-overflow_add-j
 nodes-overflow_add-j t c =

@@ -23,8 +23,8 @@ returns-then-out-n c =
     let q = no_front c.lint-n.new.out a.out.now (omega (arith, c.lint-n.auto.out)) in
     rw q (short_done a.t.now a.f c.requires a.out.now a.tally _ c.lint-n.ensures (in_full c.refused_in_full.result) (rw q at c.if-out-n.true) c.refused_in_full.ensures.0 (c.refused_in_full.ensures.1 ∙ no_full_counts a.tally (search rules)))
 
-pub lint-n-requires : goal.lint-requires
-lint-n-requires c = whole c.args.t.now _ c.requires
+pub lint-requires : goal.lint-requires
+lint-requires c = whole c.args.t.now _ c.requires
 
 pub returns : goal.returns
 returns c =

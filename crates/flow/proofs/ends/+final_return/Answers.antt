@@ -17,43 +17,43 @@ returns-then-e-j t c = ends_absent (λ v. eqb v c.args.fail) c.last_of-j.ensures
 
 pub overflow_add-f : goal.overflow_add-f
 overflow_add-f t c =
-    omega (arith, c.size_at.ensures.0, ended (later c.requires.1 (c.last_of-j.ensures.from c.if-e-j.false)) c.if-e-j.false, c.requires.1.few)
+    omega (arith, c.size_at.ensures.0, ended (later c.requires (c.last_of-j.ensures.from c.if-e-j.false)) c.if-e-j.false, c.requires.few)
 
 pub returns-then-k-eq4 : goal.returns-then-k-eq4
 returns-then-k-eq4 t c =
     ends_return (λ v. eqb v c.args.fail) c.last_of-j.ensures c.if-e-j.false (sym c.kind_at-k.ensures.0 ∙ c.if-k-eq4.true)
 
 pub overflow_add-j : goal.overflow_add-j
-overflow_add-j t c = omega (arith, c.requires.1.few, c.if-e-j.false)
+overflow_add-j t c = omega (arith, c.requires.few, c.if-e-j.false)
 
 pub returns-then-k-eq5 : goal.returns-then-k-eq5
 returns-then-k-eq5 t c =
-    (rw c.size_at.ensures.0 at c.is_fail.ensures) (kids (later c.requires.1 (c.last_of-j.ensures.from c.if-e-j.false)) c.if-e-j.false) ∙ ends_fail (λ v. eqb v c.args.fail) c.last_of-j.ensures c.if-e-j.false (sym c.kind_at-k.ensures.0 ∙ c.if-k-eq5.true)
+    (rw c.size_at.ensures.0 at c.is_fail.ensures) (kids (later c.requires (c.last_of-j.ensures.from c.if-e-j.false)) c.if-e-j.false) ∙ ends_fail (λ v. eqb v c.args.fail) c.last_of-j.ensures c.if-e-j.false (sym c.kind_at-k.ensures.0 ∙ c.if-k-eq5.true)
 
 pub overflow_add-j-then-k-eq8 : goal.overflow_add-j-then-k-eq8
-overflow_add-j-then-k-eq8 t c = omega (arith, c.requires.1.few, c.if-e-j.false)
+overflow_add-j-then-k-eq8 t c = omega (arith, c.requires.few, c.if-e-j.false)
 
 pub final_return-requires : goal.final_return-requires
 final_return-requires t c =
-    (omega (arith, c.requires.0, c.size_at.ensures.0, ended (later c.requires.1 (c.last_of-j.ensures.from c.if-e-j.false)) c.if-e-j.false, c.last_of-j.ensures.from c.if-e-j.false, c.if-e-j.false), rw c.size_at.ensures.0 (kids (later c.requires.1 (c.last_of-j.ensures.from c.if-e-j.false)) c.if-e-j.false))
+    (omega (arith, c.decreases, c.size_at.ensures.0, ended (later c.requires (c.last_of-j.ensures.from c.if-e-j.false)) c.if-e-j.false, c.last_of-j.ensures.from c.if-e-j.false, c.if-e-j.false), rw c.size_at.ensures.0 (kids (later c.requires (c.last_of-j.ensures.from c.if-e-j.false)) c.if-e-j.false))
 
 pub returns-then-k-eq8 : goal.returns-then-k-eq8
 returns-then-k-eq8 t c =
     (rw c.size_at.ensures.0 at c.final_return.ensures) ∙ ends_list (λ v. eqb v c.args.fail) c.last_of-j.ensures c.if-e-j.false (sym c.kind_at-k.ensures.0 ∙ c.if-k-eq8.true)
 
 pub overflow_add-j-then-k-eq10 : goal.overflow_add-j-then-k-eq10
-overflow_add-j-then-k-eq10 t c = omega (arith, c.requires.1.few, c.if-e-j.false)
+overflow_add-j-then-k-eq10 t c = omega (arith, c.requires.few, c.if-e-j.false)
 
 pub final_return-requires-then-k-eq10 : goal.final_return-requires-then-k-eq10
 final_return-requires-then-k-eq10 t c =
-    (omega (arith, c.requires.0, c.size_at.ensures.0, ended (later c.requires.1 (c.last_of-j.ensures.from c.if-e-j.false)) c.if-e-j.false, c.last_of-j.ensures.from c.if-e-j.false, c.if-e-j.false), rw c.size_at.ensures.0 (kids (later c.requires.1 (c.last_of-j.ensures.from c.if-e-j.false)) c.if-e-j.false))
+    (omega (arith, c.decreases, c.size_at.ensures.0, ended (later c.requires (c.last_of-j.ensures.from c.if-e-j.false)) c.if-e-j.false, c.last_of-j.ensures.from c.if-e-j.false, c.if-e-j.false), rw c.size_at.ensures.0 (kids (later c.requires (c.last_of-j.ensures.from c.if-e-j.false)) c.if-e-j.false))
 
 pub overflow_add-j-then-final_return : goal.overflow_add-j-then-final_return
-overflow_add-j-then-final_return t c = omega (arith, c.requires.1.few, c.if-e-j.false)
+overflow_add-j-then-final_return t c = omega (arith, c.requires.few, c.if-e-j.false)
 
 pub final_return-requires-then-final_return : goal.final_return-requires-then-final_return
 final_return-requires-then-final_return t c =
-    (omega (arith, c.requires.0, c.size_at.ensures.0, ended (later c.requires.1 (c.last_of-j.ensures.from c.if-e-j.false)) c.if-e-j.false, c.last_of-j.ensures.from c.if-e-j.false, c.if-e-j.false), rw c.size_at.ensures.0 (kids (later c.requires.1 (c.last_of-j.ensures.from c.if-e-j.false)) c.if-e-j.false))
+    (omega (arith, c.decreases, c.size_at.ensures.0, ended (later c.requires (c.last_of-j.ensures.from c.if-e-j.false)) c.if-e-j.false, c.last_of-j.ensures.from c.if-e-j.false, c.if-e-j.false), rw c.size_at.ensures.0 (kids (later c.requires (c.last_of-j.ensures.from c.if-e-j.false)) c.if-e-j.false))
 
 pub returns-then-final_return : goal.returns-then-final_return
 returns-then-final_return t c =

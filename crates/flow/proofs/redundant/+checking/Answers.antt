@@ -18,81 +18,81 @@ use Rattle.tree.proofs.bytes.size_at.Reads as size-at-reads
 use Rattle.flow.proofs.redundant.+checking.Goals as goal
 
 pub check-overflow_add-e : goal.check-overflow_add-e
-check-overflow_add-e t c = omega (arith, c.requires.1.part.few, c.size_at.ensures.0)
+check-overflow_add-e t c = omega (arith, c.requires.part.few, c.size_at.ensures.0)
 
 pub check-returns-then-k-eq2 : goal.check-returns-then-k-eq2
 check-returns-then-k-eq2 t c =
     check_continue c.args.loops c.args.t.now c.args.i (page c.args.out.now c.args.s) (sym c.kind_at-k.ensures.0 ∙ c.if-k-eq2.true) c.continues.ensures
 
 pub check-bare-requires : goal.check-bare-requires
-check-bare-requires t c = c.requires.1
+check-bare-requires t c = c.requires
 
 pub check-returns-then-k-eq4 : goal.check-returns-then-k-eq4
 check-returns-then-k-eq4 t c =
     check_return c.args.loops c.args.t.now c.args.i (page c.args.out.now c.args.s) (sym c.kind_at-k.ensures.0 ∙ c.if-k-eq4.true) c.bare.ensures
 
 pub check-overflow_add-i : goal.check-overflow_add-i
-check-overflow_add-i t c = omega (arith, c.requires.1.part.few)
+check-overflow_add-i t c = omega (arith, c.requires.part.few)
 
 pub check-last-requires : goal.check-last-requires
 check-last-requires t c =
-    rw c.size_at.ensures.0 (omega (arith, c.requires.0, c.requires.1.some), (whole_kids c.requires.1, omega (arith, c.requires.1.some)))
+    rw c.size_at.ensures.0 (omega (arith, c.decreases, c.requires.some), (whole_kids c.requires, omega (arith, c.requires.some)))
 
 pub check-returns-then-k-eq8 : goal.check-returns-then-k-eq8
 check-returns-then-k-eq8 t c =
     check_list c.args.loops c.args.t.now c.args.i (page c.args.out.now c.args.s) (ap (λ (x : ℕ). c.args.i + x) c.size_at.ensures.0) (sym c.kind_at-k.ensures.0 ∙ c.if-k-eq8.true) c.last.ensures
 
 pub check-overflow_add-i-then-k-eq9 : goal.check-overflow_add-i-then-k-eq9
-check-overflow_add-i-then-k-eq9 t c = omega (arith, c.requires.1.part.few)
+check-overflow_add-i-then-k-eq9 t c = omega (arith, c.requires.part.few)
 
 pub check-last-requires-then-k-eq9 : goal.check-last-requires-then-k-eq9
 check-last-requires-then-k-eq9 t c =
-    rw c.size_at.ensures.0 (omega (arith, c.requires.0, c.requires.1.some), (whole_kids c.requires.1, omega (arith, c.requires.1.some)))
+    rw c.size_at.ensures.0 (omega (arith, c.decreases, c.requires.some), (whole_kids c.requires, omega (arith, c.requires.some)))
 
 pub check-returns-then-k-eq9 : goal.check-returns-then-k-eq9
 check-returns-then-k-eq9 t c =
     check_if c.args.loops c.args.t.now c.args.i (page c.args.out.now c.args.s) (ap (λ (x : ℕ). c.args.i + x) c.size_at.ensures.0) (sym c.kind_at-k.ensures.0 ∙ c.if-k-eq9.true) c.last-then-k-eq9.ensures
 
 pub check-overflow_add-i-then-k-eq10 : goal.check-overflow_add-i-then-k-eq10
-check-overflow_add-i-then-k-eq10 t c = omega (arith, c.requires.1.part.few)
+check-overflow_add-i-then-k-eq10 t c = omega (arith, c.requires.part.few)
 
 pub check-sides-requires : goal.check-sides-requires
 check-sides-requires t c =
-    rw c.size_at.ensures.0 (omega (arith, c.requires.0, c.requires.1.some), (whole_kids c.requires.1, omega (arith, c.requires.1.some)))
+    rw c.size_at.ensures.0 (omega (arith, c.decreases, c.requires.some), (whole_kids c.requires, omega (arith, c.requires.some)))
 
 pub check-returns-then-k-eq10 : goal.check-returns-then-k-eq10
 check-returns-then-k-eq10 t c =
     check_sides c.args.loops c.args.t.now c.args.i (page c.args.out.now c.args.s) (ap (λ (x : ℕ). c.args.i + x) c.size_at.ensures.0) (sym c.kind_at-k.ensures.0 ∙ c.if-k-eq10.true) c.sides.ensures
 
-pub check-returns-then-k-eq2 : goal.check-returns
-check-returns-then-k-eq2 t c =
+pub check-returns : goal.check-returns
+check-returns t c =
     check_other c.args.loops c.args.t.now c.args.i (page c.args.out.now c.args.s) (λ z. c.if-k-eq2.false (c.kind_at-k.ensures.0 ∙ z)) (λ z. c.if-k-eq4.false (c.kind_at-k.ensures.0 ∙ z)) (λ z. c.if-k-eq8.false (c.kind_at-k.ensures.0 ∙ z)) (λ z. c.if-k-eq9.false (c.kind_at-k.ensures.0 ∙ z)) (λ z. c.if-k-eq10.false (c.kind_at-k.ensures.0 ∙ z))
 
 pub last-last_of-j-requires : goal.last-last_of-j-requires
-last-last_of-j-requires t c = c.requires.1.0
+last-last_of-j-requires t c = c.requires.0
 
 pub last-returns-then-e-j : goal.last-returns-then-e-j
 last-returns-then-e-j t c =
-    last_none c.args.loops c.args.r c.requires.1.0 c.last_of-j.ensures (page c.args.out.now c.args.s) c.if-e-j.true
+    last_none c.args.loops c.args.r c.requires.0 c.last_of-j.ensures (page c.args.out.now c.args.s) c.if-e-j.true
 
 pub last-check-requires : goal.last-check-requires
 last-check-requires t c =
-    let w = last_whole c.args.loops c.args.r c.requires.1.0 c.last_of-j.ensures c.if-e-j.false in
-    (omega (arith, c.requires.0, c.last_of-j.ensures.from c.if-e-j.false, ended (later c.requires.1.0 (c.last_of-j.ensures.from c.if-e-j.false)) c.if-e-j.false), w)
+    let w = last_whole c.args.loops c.args.r c.requires.0 c.last_of-j.ensures c.if-e-j.false in
+    (omega (arith, c.decreases, c.last_of-j.ensures.from c.if-e-j.false, ended (later c.requires.0 (c.last_of-j.ensures.from c.if-e-j.false)) c.if-e-j.false), w)
 
 pub last-returns : goal.last-returns
 last-returns t c =
-    last_checked c.args.loops c.args.r c.requires.1.0 c.last_of-j.ensures (page c.args.out.now c.args.s) c.if-e-j.false c.check.ensures
+    last_checked c.args.loops c.args.r c.requires.0 c.last_of-j.ensures (page c.args.out.now c.args.s) c.if-e-j.false c.check.ensures
 
 sides-last-requires :
     (t : ℕ) → sides-lts.Need-last-requires (sides-calls t) (sides-at t) sides.Post
 sides-last-requires t c κs =
-    (omega (arith, c.requires.0), c.requires.1)
+    (omega (arith, c.decreases), c.requires)
 
 sides-last-requires-2 :
     (t : ℕ) → sides-lts.Need-last-requires-2 (sides-calls t) (sides-at t) sides.Post
 sides-last-requires-2 t c κs =
-    (omega (arith, c.requires.0), c.requires.1)
+    (omega (arith, c.decreases), c.requires)
 
 sides-same-length :
     (t : ℕ) → sides-lts.Need-same-length (sides-calls t) (sides-at t) sides.Post

@@ -29,33 +29,33 @@ pub below-returns-then-a-eq13 : goal.below-returns-then-a-eq13
 below-returns-then-a-eq13 t c = below_none c.args.t.now c.args.n c.args.w.now c.args.a c.args.c c.if-a-eq13.true
 
 pub below-meet-requires : goal.below-meet-requires
-below-meet-requires t c = omega (arith, few c.requires.1)
+below-meet-requires t c = omega (arith, few c.requires)
 
 pub below-returns-then-a-eq14 : goal.below-returns-then-a-eq14
 below-returns-then-a-eq14 t c =
-    below_self c.args.t.now c.args.n c.args.w.now c.args.a c.args.c c.if-a-eq14.true (few c.requires.1) c.meet.ensures
+    below_self c.args.t.now c.args.n c.args.w.now c.args.a c.args.c c.if-a-eq14.true (few c.requires) c.meet.ensures
 
 pub below-overflow_add-c : goal.below-overflow_add-c
-below-overflow_add-c t c = omega (arith, few c.requires.1)
+below-overflow_add-c t c = omega (arith, few c.requires)
 
 pub below-overflow_add-c-2 : goal.below-overflow_add-c-2
-below-overflow_add-c-2 t c = omega (arith, few c.requires.1, c.size_at.ensures.1)
+below-overflow_add-c-2 t c = omega (arith, few c.requires, c.size_at.ensures.1)
 
 pub below-visit-requires : goal.below-visit-requires
-below-visit-requires t c = rw c.size_at.ensures.0 (omega (arith, c.requires.0, c.requires.1.some), whole_kids c.requires.1)
+below-visit-requires t c = rw c.size_at.ensures.0 (omega (arith, c.decreases, c.requires.some), whole_kids c.requires)
 
-pub below-returns-then-a-eq13 : goal.below-returns
-below-returns-then-a-eq13 t c =
+pub below-returns : goal.below-returns
+below-returns t c =
     below_other c.args.t.now c.args.n c.args.w.now c.args.a c.args.c c.if-a-eq13.false c.if-a-eq14.false c.size_at.ensures.0 c.visit.ensures
 
 pub node-loop-k-init : goal.node-loop-k-init
 node-loop-k-init t c = (omega arith, refl, refl)
 
 pub node-planned-requires : goal.node-planned-requires
-node-planned-requires t c = (c.requires.1.1, c.loop-k-test.true)
+node-planned-requires t c = (c.requires.1, c.loop-k-test.true)
 
 pub node-below-requires : goal.node-below-requires
-node-below-requires t c = (omega (arith, c.requires.0), c.requires.1.0)
+node-below-requires t c = (omega (arith, c.decreases), c.requires.0)
 
 pub node-overflow_add-k : goal.node-overflow_add-k
 node-overflow_add-k t c = omega (arith, c.loop-k-test.true)
@@ -75,7 +75,7 @@ node-returns t c =
     row_done c.args.t.now c.args.n c.args.r c.args.c c.loop-k.k _ c.loop-k.w c.loop-k.invariant.2 (omega (arith, c.loop-k.invariant.0, c.loop-k-test.false))
 
 pub step-node-requires : goal.step-node-requires
-step-node-requires t c = (omega (arith, c.requires.0), (c.requires.1, c.row.ensures.0))
+step-node-requires t c = (omega (arith, c.decreases), (c.requires, c.row.ensures.0))
 
 pub step-returns-then-wanted : goal.step-returns-then-wanted
 step-returns-then-wanted t c =
@@ -86,11 +86,11 @@ step-returns-else-wanted t c =
     step_unwanted c.args.t.now c.args.n c.args.w.now c.args.a c.args.c c.role_at.ensures.0 c.wanted.ensures c.if-wanted.false
 
 pub visit-loop-c-init : goal.visit-loop-c-init
-visit-loop-c-init t c = (omega arith, c.requires.1, refl, refl)
+visit-loop-c-init t c = (omega arith, c.requires, refl, refl)
 
 pub visit-step-requires : goal.visit-step-requires
 visit-step-requires t c =
-    (omega (arith, c.requires.0, ended c.loop-c.invariant.1 c.loop-c-test.true, c.loop-c.invariant.0), whole_at c.loop-c.invariant.1 c.loop-c-test.true)
+    (omega (arith, c.decreases, ended c.loop-c.invariant.1 c.loop-c-test.true, c.loop-c.invariant.0), whole_at c.loop-c.invariant.1 c.loop-c-test.true)
 
 pub visit-overflow_add-c : goal.visit-overflow_add-c
 visit-overflow_add-c t c =

@@ -25,18 +25,18 @@ use Rattle.tree.proofs.bytes.size_at.Reads as size-at-reads
 use Rattle.names.proofs.walk.+binding.Goals as goal
 
 pub bind-overflow_add-e : goal.bind-overflow_add-e
-bind-overflow_add-e t c = omega (arith, c.size_at.ensures.0, node_few c.requires.1.0, c.requires.1.0.part.few)
+bind-overflow_add-e t c = omega (arith, c.size_at.ensures.0, node_few c.requires.0, c.requires.0.part.few)
 
 pub bind-overflow_add-i : goal.bind-overflow_add-i
-bind-overflow_add-i t c = omega (arith, node_few c.requires.1.0)
+bind-overflow_add-i t c = omega (arith, node_few c.requires.0)
 
 pub bind-loop-i-init : goal.bind-loop-i-init
 bind-loop-i-init t c =
-    (omega arith, ap (λ (z : ℕ). c.args.c + z) c.size_at.ensures.0, kids_as c.args.t.now c.args.c _ c.size_at.ensures.0 c.requires.1.0, c.requires.1.1, refl, λ d v y g. goes_as (names_as c.args.t.now c.args.c _ c.size_at.ensures.0 c.args.r c.args.uses) g)
+    (omega arith, ap (λ (z : ℕ). c.args.c + z) c.size_at.ensures.0, kids_as c.args.t.now c.args.c _ c.size_at.ensures.0 c.requires.0, c.requires.1, refl, λ d v y g. goes_as (names_as c.args.t.now c.args.c _ c.size_at.ensures.0 c.args.r c.args.uses) g)
 
 pub bind-bind_one-z-requires : goal.bind-bind_one-z-requires
 bind-bind_one-z-requires t c =
-    let p = c.loop-i.invariant.2 in let n = ended p c.loop-i-test.true in (omega (arith, c.requires.0, c.loop-i.invariant.0, c.loop-i.invariant.1), (node_in_part p c.loop-i-test.true (omega arith), c.loop-i.invariant.3))
+    let p = c.loop-i.invariant.2 in let n = ended p c.loop-i-test.true in (omega (arith, c.decreases, c.loop-i.invariant.0, c.loop-i.invariant.1), (node_in_part p c.loop-i-test.true (omega arith), c.loop-i.invariant.3))
 
 pub bind-overflow_add-i-in-loop-i : goal.bind-overflow_add-i-in-loop-i
 bind-overflow_add-i-in-loop-i t c =
@@ -58,17 +58,17 @@ bind-returns t c =
 
 pub bind_one-returns-then-role_at-r : goal.bind_one-returns-then-role_at-r
 bind_one-returns-then-role_at-r t c =
-    λ d. pick_false _ (ne_eqb c.args.r (role_at c.args.t.now c.args.i) (λ z. c.if-role_at-r.true (c.role_at.ensures.0 ∙ sym z))) _ _ (skips c.requires.1.1)
+    λ d. pick_false _ (ne_eqb c.args.r (role_at c.args.t.now c.args.i) (λ z. c.if-role_at-r.true (c.role_at.ensures.0 ∙ sym z))) _ _ (skips c.requires.1)
 
 pub bind_one-bind-requires : goal.bind_one-bind-requires
-bind_one-bind-requires t c = (omega (arith, c.requires.0), (c.requires.1.0, c.requires.1.1))
+bind_one-bind-requires t c = (omega (arith, c.decreases), (c.requires.0, c.requires.1))
 
 pub bind_one-returns-then-k-eq41 : goal.bind_one-returns-then-k-eq41
 bind_one-returns-then-k-eq41 t c =
     λ d. pick_true _ (eq-eqb c.args.r (role_at c.args.t.now c.args.i) (sym c.if-role_at-r.false ∙ c.role_at.ensures.0)) _ _ (goes_as (name_several c.args.t.now c.args.i c.args.uses (sym c.kind_at-k.ensures.0 ∙ c.if-k-eq41.true)) (c.bind.ensures d))
 
 pub bind_one-ident-requires : goal.bind_one-ident-requires
-bind_one-ident-requires t c = (c.requires.1.0, c.requires.1.1)
+bind_one-ident-requires t c = (c.requires.0, c.requires.1)
 
 pub bind_one-returns-then-binds_name : goal.bind_one-returns-then-binds_name
 bind_one-returns-then-binds_name t c =
@@ -76,4 +76,4 @@ bind_one-returns-then-binds_name t c =
 
 pub bind_one-returns : goal.bind_one-returns
 bind_one-returns t c =
-    λ d. pick_true _ (eq-eqb c.args.r (role_at c.args.t.now c.args.i) (sym c.if-role_at-r.false ∙ c.role_at.ensures.0)) _ _ (goes_as (name_other c.args.t.now c.args.i c.args.uses (λ z. c.if-k-eq41.false (c.kind_at-k.ensures.0 ∙ z)) (name_so c.kind_at-k.ensures.0 c.binds_name.ensures c.if-binds_name.false)) (skips c.requires.1.1))
+    λ d. pick_true _ (eq-eqb c.args.r (role_at c.args.t.now c.args.i) (sym c.if-role_at-r.false ∙ c.role_at.ensures.0)) _ _ (goes_as (name_other c.args.t.now c.args.i c.args.uses (λ z. c.if-k-eq41.false (c.kind_at-k.ensures.0 ∙ z)) (name_so c.kind_at-k.ensures.0 c.binds_name.ensures c.if-binds_name.false)) (skips c.requires.1))

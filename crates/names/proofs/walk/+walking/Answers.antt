@@ -87,120 +87,119 @@ use Rattle.scope.specs.declared.Scope.{Scope}
 use Rattle.names.proofs.walk.+walking.Goals as goal
 
 pub assign-down-a-requires : goal.assign-down-a-requires
-assign-down-a-requires t c = (omega (arith, c.requires.0), (c.requires.1.0, c.requires.1.1))
+assign-down-a-requires t c = (omega (arith, c.decreases), (c.requires.0, c.requires.1))
 
 pub assign-bind-a-requires : goal.assign-bind-a-requires
-assign-bind-a-requires t c = (node_zero c.requires.1.0, (goes_fits c.down-a.ensures))
+assign-bind-a-requires t c = (node_zero c.requires.0, (goes_fits c.down-a.ensures))
 
 pub assign-returns : goal.assign-returns
 assign-returns t c = then c.down-a.ensures (c.bind-a.ensures c.args.d)
 
 pub block-down-requires : goal.block-down-requires
-block-down-requires t c = (omega (arith, c.requires.0), (c.requires.1.4, c.requires.1.5))
+block-down-requires t c = (omega (arith, c.decreases), (c.requires.4, c.requires.5))
 
 pub block-returns-then-k-eq8 : goal.block-returns-then-k-eq8
-block-returns-then-k-eq8 t c = goes_as (node_statements _ _ _ (sym c.requires.1.0 ∙ c.if-k-eq8.true)) c.down.ensures
+block-returns-then-k-eq8 t c = goes_as (node_statements _ _ _ (sym c.requires.0 ∙ c.if-k-eq8.true)) c.down.ensures
 
 pub block-def-requires : goal.block-def-requires
-block-def-requires t c =
-    (omega (arith, c.requires.0), ((sym c.requires.1.0 ∙ c.if-k-eq12.true), c.requires.1.4, c.requires.1.5))
+block-def-requires t c = (omega (arith, c.decreases), ((sym c.requires.0 ∙ c.if-k-eq12.true), c.requires.4, c.requires.5))
 
 pub block-returns-then-k-eq12 : goal.block-returns-then-k-eq12
 block-returns-then-k-eq12 t c = c.def.ensures
 
 pub block-bind-requires : goal.block-bind-requires
-block-bind-requires t c = (node_zero c.requires.1.4, c.requires.1.5)
+block-bind-requires t c = (node_zero c.requires.4, c.requires.5)
 
 pub block-returns-then-k-eq13 : goal.block-returns-then-k-eq13
-block-returns-then-k-eq13 t c = goes_as (node_load _ _ _ (sym c.requires.1.0 ∙ c.if-k-eq13.true)) (c.bind.ensures c.args.d)
+block-returns-then-k-eq13 t c = goes_as (node_load _ _ _ (sym c.requires.0 ∙ c.if-k-eq13.true)) (c.bind.ensures c.args.d)
 
 pub block-loops-requires : goal.block-loops-requires
 block-loops-requires t c =
-    (omega (arith, c.requires.0), ((sym c.requires.1.0 ∙ c.if-k-eq11.true), c.requires.1.3, c.requires.1.4, c.requires.1.5))
+    (omega (arith, c.decreases), ((sym c.requires.0 ∙ c.if-k-eq11.true), c.requires.3, c.requires.4, c.requires.5))
 
 pub block-returns-then-k-eq11 : goal.block-returns-then-k-eq11
 block-returns-then-k-eq11 t c = c.loops.ensures
 
 pub block-cond-requires : goal.block-cond-requires
 block-cond-requires t c =
-    (omega (arith, c.requires.0), (c.requires.1.0, nine_on c.requires.1.1 c.if-k-eq8.false, eleven_off c.requires.1.2 c.if-k-eq12.false c.if-k-eq13.false c.if-k-eq11.false, c.requires.1.4, c.requires.1.5))
+    (omega (arith, c.decreases), (c.requires.0, nine_on c.requires.1 c.if-k-eq8.false, eleven_off c.requires.2 c.if-k-eq12.false c.if-k-eq13.false c.if-k-eq11.false, c.requires.4, c.requires.5))
 
-pub block-returns-then-k-eq8 : goal.block-returns
-block-returns-then-k-eq8 t c = c.cond.ensures
+pub block-returns : goal.block-returns
+block-returns t c = c.cond.ensures
 
 pub body-bind-a-requires : goal.body-bind-a-requires
-body-bind-a-requires t c = (node_zero c.requires.1.0, enter_fits c.enter.ensures c.requires.1.1)
+body-bind-a-requires t c = (node_zero c.requires.0, enter_fits c.enter.ensures c.requires.1)
 
 pub body-down-b-requires : goal.body-down-b-requires
-body-down-b-requires t c = (omega (arith, c.requires.0), (c.requires.1.0, goes_fits (c.bind-a.ensures c.args.d)))
+body-down-b-requires t c = (omega (arith, c.decreases), (c.requires.0, goes_fits (c.bind-a.ensures c.args.d)))
 
 pub body-leave-requires : goal.body-leave-requires
 body-leave-requires t c =
-    ((goes_fits c.down-b.ensures), leave_asks c.requires.1.1 c.enter.ensures (then (c.bind-a.ensures c.args.d) c.down-b.ensures))
+    ((goes_fits c.down-b.ensures), leave_asks c.requires.1 c.enter.ensures (then (c.bind-a.ensures c.args.d) c.down-b.ensures))
 
 pub body-returns : goal.body-returns
 body-returns t c =
-    scopes_to (methods _) c.requires.1.1 c.enter.ensures (then (c.bind-a.ensures c.args.d) c.down-b.ensures) c.leave.ensures.0 c.leave.ensures.1
+    scopes_to (methods _) c.requires.1 c.enter.ensures (then (c.bind-a.ensures c.args.d) c.down-b.ensures) c.leave.ensures.0 c.leave.ensures.1
 
 pub bound-overflow_add-e : goal.bound-overflow_add-e
-bound-overflow_add-e t c = omega (arith, c.size_at.ensures.0, node_few c.requires.1.1, c.requires.1.1.part.few)
+bound-overflow_add-e t c = omega (arith, c.size_at.ensures.0, node_few c.requires.1, c.requires.1.part.few)
 
 pub bound-assign-a-requires : goal.bound-assign-a-requires
 bound-assign-a-requires t c =
-    let h : c.args.x < c.args.c + size_at c.args.t.now c.args.c = rw c.size_at.ensures.0 at c.if-x-e.true in let k = (clause_after c.args.t.now c.args.f c.requires.1.1 c.requires.1.0) in let b = below_ends c.requires.1.1 k h in (omega (arith, c.requires.0), (below_node c.requires.1.1 k h, c.requires.1.2))
+    let h : c.args.x < c.args.c + size_at c.args.t.now c.args.c = rw c.size_at.ensures.0 at c.if-x-e.true in let k = (clause_after c.args.t.now c.args.f c.requires.1 c.requires.0) in let b = below_ends c.requires.1 k h in (omega (arith, c.decreases), (below_node c.requires.1 k h, c.requires.2))
 
 pub bound-later-requires : goal.bound-later-requires
 bound-later-requires t c =
-    let h : c.args.x < c.args.c + size_at c.args.t.now c.args.c = rw c.size_at.ensures.0 at c.if-x-e.true in let k = (clause_after c.args.t.now c.args.f c.requires.1.1 c.requires.1.0) in let b = below_ends c.requires.1.1 k h in (omega (arith, c.requires.0), (k, h, c.requires.1.1, (goes_fits c.assign-a.ensures)))
+    let h : c.args.x < c.args.c + size_at c.args.t.now c.args.c = rw c.size_at.ensures.0 at c.if-x-e.true in let k = (clause_after c.args.t.now c.args.f c.requires.1 c.requires.0) in let b = below_ends c.requires.1 k h in (omega (arith, c.decreases), (k, h, c.requires.1, (goes_fits c.assign-a.ensures)))
 
 pub bound-returns-then-x-e : goal.bound-returns-then-x-e
 bound-returns-then-x-e t c =
-    let h : c.args.x < c.args.c + size_at c.args.t.now c.args.c = rw c.size_at.ensures.0 at c.if-x-e.true in let k = (clause_after c.args.t.now c.args.f c.requires.1.1 c.requires.1.0) in let b = below_ends c.requires.1.1 k h in goes_as (bound_there _ _ c.requires.1.1 c.requires.1.0 h) (regroup (then c.assign-a.ensures c.later.ensures))
+    let h : c.args.x < c.args.c + size_at c.args.t.now c.args.c = rw c.size_at.ensures.0 at c.if-x-e.true in let k = (clause_after c.args.t.now c.args.f c.requires.1 c.requires.0) in let b = below_ends c.requires.1 k h in goes_as (bound_there _ _ c.requires.1 c.requires.0 h) (regroup (then c.assign-a.ensures c.later.ensures))
 
-pub bound-returns-then-x-e : goal.bound-returns
-bound-returns-then-x-e t c =
-    let h : c.args.c + size_at c.args.t.now c.args.c ≤ c.args.x = rw c.size_at.ensures.0 at c.if-x-e.false in goes_as (bound_none _ _ c.requires.1.1 c.requires.1.0 h) (skips c.requires.1.2)
+pub bound-returns : goal.bound-returns
+bound-returns t c =
+    let h : c.args.c + size_at c.args.t.now c.args.c ≤ c.args.x = rw c.size_at.ensures.0 at c.if-x-e.false in goes_as (bound_none _ _ c.requires.1 c.requires.0 h) (skips c.requires.2)
 
 pub branch-down-a-requires : goal.branch-down-a-requires
-branch-down-a-requires t c = (omega (arith, c.requires.0), (c.requires.1.0, c.requires.1.1))
+branch-down-a-requires t c = (omega (arith, c.decreases), (c.requires.0, c.requires.1))
 
 pub branch-down-b-requires : goal.branch-down-b-requires
 branch-down-b-requires t c =
-    (omega (arith, c.requires.0), (c.requires.1.0, (back_fits c.back.ensures c.requires.1.1 (goes_fits c.down-a.ensures) c.down-a.ensures.does.kept)))
+    (omega (arith, c.decreases), (c.requires.0, (back_fits c.back.ensures c.requires.1 (goes_fits c.down-a.ensures) c.down-a.ensures.does.kept)))
 
 pub branch-join-requires : goal.branch-join-requires
 branch-join-requires t c = (goes_fits c.down-b.ensures).settings
 
 pub branch-returns : goal.branch-returns
-branch-returns t c = sides_to (methods _) c.requires.1.1 c.down-a.ensures c.back.ensures c.down-b.ensures c.join.ensures
+branch-returns t c = sides_to (methods _) c.requires.1 c.down-a.ensures c.back.ensures c.down-b.ensures c.join.ensures
 
 pub clause-returns-then-role_at-ne0 : goal.clause-returns-then-role_at-ne0
 clause-returns-then-role_at-ne0 t c =
-    goes_as (clause_none _ _ _ (λ z. c.if-role_at-ne0.true (c.role_at.ensures.0 ∙ z))) (skips c.requires.1.1)
+    goes_as (clause_none _ _ _ (λ z. c.if-role_at-ne0.true (c.role_at.ensures.0 ∙ z))) (skips c.requires.1)
 
 pub clause-down-a-requires : goal.clause-down-a-requires
-clause-down-a-requires t c = (omega (arith, c.requires.0), (c.requires.1.0, c.requires.1.1))
+clause-down-a-requires t c = (omega (arith, c.decreases), (c.requires.0, c.requires.1))
 
 pub clause-assign-requires : goal.clause-assign-requires
-clause-assign-requires t c = (omega (arith, c.requires.0), (c.requires.1.0, (goes_fits c.down-a.ensures)))
+clause-assign-requires t c = (omega (arith, c.decreases), (c.requires.0, (goes_fits c.down-a.ensures)))
 
-pub clause-returns-then-role_at-ne0 : goal.clause-returns
-clause-returns-then-role_at-ne0 t c =
+pub clause-returns : goal.clause-returns
+clause-returns t c =
     goes_as (clause_there _ _ _ (sym c.role_at.ensures.0 ∙ c.if-role_at-ne0.false)) (then c.down-a.ensures c.assign.ensures)
 
 pub comp-overflow_add-e : goal.comp-overflow_add-e
-comp-overflow_add-e t c = omega (arith, c.size_at.ensures.0, node_few c.requires.1.0, c.requires.1.0.part.few)
+comp-overflow_add-e t c = omega (arith, c.size_at.ensures.0, node_few c.requires.0, c.requires.0.part.few)
 
 pub comp-overflow_add-c : goal.comp-overflow_add-c
-comp-overflow_add-c t c = omega (arith, node_few c.requires.1.0)
+comp-overflow_add-c t c = omega (arith, node_few c.requires.0)
 
 pub comp-over-a-requires : goal.comp-over-a-requires
 comp-over-a-requires t c =
-    (omega (arith, c.requires.0), ((kid_as _ _ _ c.size_at.ensures.0 0 c.child_of-x.ensures), c.requires.1.0, c.requires.1.1))
+    (omega (arith, c.decreases), ((kid_as _ _ _ c.size_at.ensures.0 0 c.child_of-x.ensures), c.requires.0, c.requires.1))
 
 pub comp-rest-b-requires : goal.comp-rest-b-requires
 comp-rest-b-requires t c =
-    (omega (arith, c.requires.0), ((kid_as _ _ _ c.size_at.ensures.0 0 c.child_of-x.ensures), c.requires.1.0, enter_fits c.enter.ensures (goes_fits c.over-a.ensures)))
+    (omega (arith, c.decreases), ((kid_as _ _ _ c.size_at.ensures.0 0 c.child_of-x.ensures), c.requires.0, enter_fits c.enter.ensures (goes_fits c.over-a.ensures)))
 
 pub comp-leave-b-requires : goal.comp-leave-b-requires
 comp-leave-b-requires t c =
@@ -211,137 +210,135 @@ comp-returns t c =
     then c.over-a.ensures (scopes_to (methods _) (goes_fits c.over-a.ensures) c.enter.ensures c.rest-b.ensures c.leave-b.ensures.0 c.leave-b.ensures.1)
 
 pub cond-down-a-requires : goal.cond-down-a-requires
-cond-down-a-requires t c = (omega (arith, c.requires.0), (c.requires.1.3, c.requires.1.4))
+cond-down-a-requires t c = (omega (arith, c.decreases), (c.requires.3, c.requires.4))
 
 pub cond-side-requires : goal.cond-side-requires
-cond-side-requires t c = (omega (arith, c.requires.0), (c.requires.1.3, (goes_fits c.down-a.ensures)))
+cond-side-requires t c = (omega (arith, c.decreases), (c.requires.3, (goes_fits c.down-a.ensures)))
 
 pub cond-returns-then-k-eq9 : goal.cond-returns-then-k-eq9
-cond-returns-then-k-eq9 t c =
-    goes_as (node_if _ _ _ (sym c.requires.1.0 ∙ c.if-k-eq9.true)) (then c.down-a.ensures c.side.ensures)
+cond-returns-then-k-eq9 t c = goes_as (node_if _ _ _ (sym c.requires.0 ∙ c.if-k-eq9.true)) (then c.down-a.ensures c.side.ensures)
 
 pub cond-branch-t-requires : goal.cond-branch-t-requires
-cond-branch-t-requires t c = (omega (arith, c.requires.0), (c.requires.1.3, (goes_fits c.down-a.ensures)))
+cond-branch-t-requires t c = (omega (arith, c.decreases), (c.requires.3, (goes_fits c.down-a.ensures)))
 
 pub cond-returns : goal.cond-returns
 cond-returns t c =
-    goes_as (node_if_else _ _ _ (sym c.requires.1.0 ∙ ten_left c.requires.1.1 c.requires.1.2 c.if-k-eq9.false)) (then c.down-a.ensures c.branch-t.ensures)
+    goes_as (node_if_else _ _ _ (sym c.requires.0 ∙ ten_left c.requires.1 c.requires.2 c.if-k-eq9.false)) (then c.down-a.ensures c.branch-t.ensures)
 
 pub def-down-a-requires : goal.def-down-a-requires
-def-down-a-requires t c = (omega (arith, c.requires.0), (c.requires.1.1, c.requires.1.2))
+def-down-a-requires t c = (omega (arith, c.decreases), (c.requires.1, c.requires.2))
 
 pub def-down-b-requires : goal.def-down-b-requires
-def-down-b-requires t c = (omega (arith, c.requires.0), (c.requires.1.1, (goes_fits c.down-a.ensures)))
+def-down-b-requires t c = (omega (arith, c.decreases), (c.requires.1, (goes_fits c.down-a.ensures)))
 
 pub def-bind-n-requires : goal.def-bind-n-requires
-def-bind-n-requires t c = (node_zero c.requires.1.1, (goes_fits c.down-b.ensures))
+def-bind-n-requires t c = (node_zero c.requires.1, (goes_fits c.down-b.ensures))
 
 pub def-body-requires : goal.def-body-requires
-def-body-requires t c = (omega (arith, c.requires.0), (c.requires.1.1, goes_fits (c.bind-n.ensures c.args.d)))
+def-body-requires t c = (omega (arith, c.decreases), (c.requires.1, goes_fits (c.bind-n.ensures c.args.d)))
 
 pub def-returns : goal.def-returns
 def-returns t c =
-    goes_as (node_def _ _ _ c.requires.1.0) (then c.down-a.ensures (then c.down-b.ensures (then (c.bind-n.ensures c.args.d) c.body.ensures)))
+    goes_as (node_def _ _ _ c.requires.0) (then c.down-a.ensures (then c.down-b.ensures (then (c.bind-n.ensures c.args.d) c.body.ensures)))
 
 pub down-overflow_add-e : goal.down-overflow_add-e
-down-overflow_add-e t c = omega (arith, c.size_at.ensures.0, node_few c.requires.1.0, c.requires.1.0.part.few)
+down-overflow_add-e t c = omega (arith, c.size_at.ensures.0, node_few c.requires.0, c.requires.0.part.few)
 
 pub down-overflow_add-c : goal.down-overflow_add-c
-down-overflow_add-c t c = omega (arith, node_few c.requires.1.0)
+down-overflow_add-c t c = omega (arith, node_few c.requires.0)
 
 pub down-visit-requires : goal.down-visit-requires
 down-visit-requires t c =
-    (omega (arith, c.requires.0, c.size_at.ensures.0, c.requires.1.0.some), (kids_as _ _ _ c.size_at.ensures.0 c.requires.1.0, c.requires.1.0.deep, c.requires.1.1))
+    (omega (arith, c.decreases, c.size_at.ensures.0, c.requires.0.some), (kids_as _ _ _ c.size_at.ensures.0 c.requires.0, c.requires.0.deep, c.requires.1))
 
 pub down-returns : goal.down-returns
 down-returns t c = goes_as (down_as _ _ _ c.size_at.ensures.0 _ _) c.visit.ensures
 
 pub eval-down-a-requires : goal.eval-down-a-requires
-eval-down-a-requires t c = (omega (arith, c.requires.0), (c.requires.1.1, c.requires.1.2))
+eval-down-a-requires t c = (omega (arith, c.decreases), (c.requires.1, c.requires.2))
 
 pub eval-overflow_add-e : goal.eval-overflow_add-e
-eval-overflow_add-e t c = omega (arith, c.size_at.ensures.0, node_few c.requires.1.1, c.requires.1.1.part.few)
+eval-overflow_add-e t c = omega (arith, c.size_at.ensures.0, node_few c.requires.1, c.requires.1.part.few)
 
 pub eval-overflow_add-c : goal.eval-overflow_add-c
-eval-overflow_add-c t c = omega (arith, node_few c.requires.1.1)
+eval-overflow_add-c t c = omega (arith, node_few c.requires.1)
 
 pub eval-returns-then-is_fail : goal.eval-returns-then-is_fail
 eval-returns-then-is_fail t c =
-    goes_as (node_expression _ _ _ c.requires.1.0) (then c.down-a.ensures (cond_true _ (sym (fail_as _ _ _ c.size_at.ensures.0 _ c.requires.1.1 c.is_fail.ensures) ∙ c.if-is_fail.true) _ _ (stop_to fails Function refl c.stop.ensures (goes_fits c.down-a.ensures))))
+    goes_as (node_expression _ _ _ c.requires.0) (then c.down-a.ensures (cond_true _ (sym (fail_as _ _ _ c.size_at.ensures.0 _ c.requires.1 c.is_fail.ensures) ∙ c.if-is_fail.true) _ _ (stop_to fails Function refl c.stop.ensures (goes_fits c.down-a.ensures))))
 
 pub eval-returns : goal.eval-returns
 eval-returns t c =
-    goes_as (node_expression _ _ _ c.requires.1.0) (then c.down-a.ensures (cond_false _ (sym (fail_as _ _ _ c.size_at.ensures.0 _ c.requires.1.1 c.is_fail.ensures) ∙ c.if-is_fail.false) _ _ (skips (goes_fits c.down-a.ensures))))
+    goes_as (node_expression _ _ _ c.requires.0) (then c.down-a.ensures (cond_false _ (sym (fail_as _ _ _ c.size_at.ensures.0 _ c.requires.1 c.is_fail.ensures) ∙ c.if-is_fail.false) _ _ (skips (goes_fits c.down-a.ensures))))
 
 pub expr-used-requires : goal.expr-used-requires
-expr-used-requires t c = (c.requires.1.3, omega (arith, node_few c.requires.1.2))
+expr-used-requires t c = (c.requires.3, omega (arith, node_few c.requires.2))
 
 pub expr-returns-then-k-eq20 : goal.expr-returns-then-k-eq20
 expr-returns-then-k-eq20 t c =
-    goes_as (node_identifier _ _ _ (sym c.requires.1.0 ∙ c.if-k-eq20.true)) (goes_to c.used.ensures.1 c.used.ensures.0 ((methods _).used _ _ _ _ c.requires.1.3 (node_few c.requires.1.2)))
+    goes_as (node_identifier _ _ _ (sym c.requires.0 ∙ c.if-k-eq20.true)) (goes_to c.used.ensures.1 c.used.ensures.0 ((methods _).used _ _ _ _ c.requires.3 (node_few c.requires.2)))
 
 pub expr-lambda-requires : goal.expr-lambda-requires
-expr-lambda-requires t c =
-    (omega (arith, c.requires.0), ((sym c.requires.1.0 ∙ c.if-k-eq24.true), c.requires.1.2, c.requires.1.3))
+expr-lambda-requires t c = (omega (arith, c.decreases), ((sym c.requires.0 ∙ c.if-k-eq24.true), c.requires.2, c.requires.3))
 
 pub expr-returns-then-k-eq24 : goal.expr-returns-then-k-eq24
 expr-returns-then-k-eq24 t c = c.lambda.ensures
 
 pub expr-comp-requires : goal.expr-comp-requires
-expr-comp-requires t c = (omega (arith, c.requires.0), (c.requires.1.2, c.requires.1.3))
+expr-comp-requires t c = (omega (arith, c.decreases), (c.requires.2, c.requires.3))
 
 pub expr-returns-then-k-eq25 : goal.expr-returns-then-k-eq25
-expr-returns-then-k-eq25 t c = goes_as (node_list _ _ _ (sym c.requires.1.0 ∙ c.if-k-eq25.true)) c.comp.ensures
+expr-returns-then-k-eq25 t c = goes_as (node_list _ _ _ (sym c.requires.0 ∙ c.if-k-eq25.true)) c.comp.ensures
 
 pub expr-comp-requires-then-k-eq26 : goal.expr-comp-requires-then-k-eq26
-expr-comp-requires-then-k-eq26 t c = (omega (arith, c.requires.0), (c.requires.1.2, c.requires.1.3))
+expr-comp-requires-then-k-eq26 t c = (omega (arith, c.decreases), (c.requires.2, c.requires.3))
 
 pub expr-returns-then-k-eq26 : goal.expr-returns-then-k-eq26
-expr-returns-then-k-eq26 t c = goes_as (node_dict _ _ _ (sym c.requires.1.0 ∙ c.if-k-eq26.true)) c.comp-then-k-eq26.ensures
+expr-returns-then-k-eq26 t c = goes_as (node_dict _ _ _ (sym c.requires.0 ∙ c.if-k-eq26.true)) c.comp-then-k-eq26.ensures
 
 pub expr-down-requires : goal.expr-down-requires
-expr-down-requires t c = (omega (arith, c.requires.0), (c.requires.1.2, c.requires.1.3))
+expr-down-requires t c = (omega (arith, c.decreases), (c.requires.2, c.requires.3))
 
 pub expr-returns : goal.expr-returns
 expr-returns t c =
-    goes_as (node_other _ _ _ c.args.k (sym c.requires.1.0) c.requires.1.1 c.if-k-eq20.false c.if-k-eq24.false c.if-k-eq25.false c.if-k-eq26.false) c.down.ensures
+    goes_as (node_other _ _ _ c.args.k (sym c.requires.0) c.requires.1 c.if-k-eq20.false c.if-k-eq24.false c.if-k-eq25.false c.if-k-eq26.false) c.down.ensures
 
 pub gets-down-a-requires : goal.gets-down-a-requires
-gets-down-a-requires t c = (omega (arith, c.requires.0), (c.requires.1.1, c.requires.1.2))
+gets-down-a-requires t c = (omega (arith, c.decreases), (c.requires.1, c.requires.2))
 
 pub gets-down-b-requires : goal.gets-down-b-requires
-gets-down-b-requires t c = (omega (arith, c.requires.0), (c.requires.1.1, (goes_fits c.down-a.ensures)))
+gets-down-b-requires t c = (omega (arith, c.decreases), (c.requires.1, (goes_fits c.down-a.ensures)))
 
 pub gets-assign-requires : goal.gets-assign-requires
-gets-assign-requires t c = (omega (arith, c.requires.0), (c.requires.1.1, (goes_fits c.down-b.ensures)))
+gets-assign-requires t c = (omega (arith, c.decreases), (c.requires.1, (goes_fits c.down-b.ensures)))
 
 pub gets-returns : goal.gets-returns
 gets-returns t c =
-    goes_as (node_assign _ _ _ c.requires.1.0) (then c.down-a.ensures (then c.down-b.ensures c.assign.ensures))
+    goes_as (node_assign _ _ _ c.requires.0) (then c.down-a.ensures (then c.down-b.ensures c.assign.ensures))
 
 pub lambda-down-a-requires : goal.lambda-down-a-requires
-lambda-down-a-requires t c = (omega (arith, c.requires.0), (c.requires.1.1, c.requires.1.2))
+lambda-down-a-requires t c = (omega (arith, c.decreases), (c.requires.1, c.requires.2))
 
 pub lambda-body-requires : goal.lambda-body-requires
-lambda-body-requires t c = (omega (arith, c.requires.0), (c.requires.1.1, (goes_fits c.down-a.ensures)))
+lambda-body-requires t c = (omega (arith, c.decreases), (c.requires.1, (goes_fits c.down-a.ensures)))
 
 pub lambda-returns : goal.lambda-returns
-lambda-returns t c = goes_as (node_lambda _ _ _ c.requires.1.0) (then c.down-a.ensures c.body.ensures)
+lambda-returns t c = goes_as (node_lambda _ _ _ c.requires.0) (then c.down-a.ensures c.body.ensures)
 
 pub later-overflow_add-e : goal.later-overflow_add-e
-later-overflow_add-e t c = omega (arith, c.size_at.ensures.0, node_few c.requires.1.2, c.requires.1.2.part.few)
+later-overflow_add-e t c = omega (arith, c.size_at.ensures.0, node_few c.requires.2, c.requires.2.part.few)
 
 pub later-overflow_add-i : goal.later-overflow_add-i
 later-overflow_add-i t c =
-    omega (arith, c.size_at-2.ensures.0, below_ends c.requires.1.2 c.requires.1.0 c.requires.1.1, c.requires.1.2.part.few)
+    omega (arith, c.size_at-2.ensures.0, below_ends c.requires.2 c.requires.0 c.requires.1, c.requires.2.part.few)
 
 pub later-loop-i-init : goal.later-loop-i-init
 later-loop-i-init t c =
-    rw (c.size_at.ensures.0, c.size_at-2.ensures.0) (omega (arith, c.requires.1.0), refl, below_rest c.requires.1.2 c.requires.1.0 c.requires.1.1, c.requires.1.3, refl, λ v y g. g)
+    rw (c.size_at.ensures.0, c.size_at-2.ensures.0) (omega (arith, c.requires.0), refl, below_rest c.requires.2 c.requires.0 c.requires.1, c.requires.3, refl, λ v y g. g)
 
 pub later-clause-z-requires : goal.later-clause-z-requires
 later-clause-z-requires t c =
-    let p = c.loop-i.invariant.2 in let n = ended p c.loop-i-test.true in (omega (arith, c.requires.0, c.loop-i.invariant.0, c.loop-i.invariant.1), (node_in_part p c.loop-i-test.true (omega (arith, c.requires.1.2.deep, c.loop-i.invariant.0)), c.loop-i.invariant.3))
+    let p = c.loop-i.invariant.2 in let n = ended p c.loop-i-test.true in (omega (arith, c.decreases, c.loop-i.invariant.0, c.loop-i.invariant.1), (node_in_part p c.loop-i-test.true (omega (arith, c.requires.2.deep, c.loop-i.invariant.0)), c.loop-i.invariant.3))
 
 pub later-overflow_add-i-in-loop-i : goal.later-overflow_add-i-in-loop-i
 later-overflow_add-i-in-loop-i t c =
@@ -363,180 +360,174 @@ later-returns t c =
     c.loop-i.invariant.5 _ _ (clauses_last c.args.f c.loop-i.i _ c.loop-i-test.false c.loop-i.invariant.3)
 
 pub loops-overflow_add-n : goal.loops-overflow_add-n
-loops-overflow_add-n t c = omega (arith, c.requires.1.1, node_few c.requires.1.2)
+loops-overflow_add-n t c = omega (arith, c.requires.1, node_few c.requires.2)
 
 pub loops-down-a-requires : goal.loops-down-a-requires
-loops-down-a-requires t c = (omega (arith, c.requires.0), (c.requires.1.2, c.requires.1.3))
+loops-down-a-requires t c = (omega (arith, c.decreases), (c.requires.2, c.requires.3))
 
 pub loops-turn-a-requires : goal.loops-turn-a-requires
 loops-turn-a-requires t c =
-    (omega (arith, c.requires.0), ((node_more c.requires.1.2 (c.args.d + 1) (omega (arith, c.requires.1.1))), (goes_fits c.down-a.ensures)))
+    (omega (arith, c.decreases), ((node_more c.requires.2 (c.args.d + 1) (omega (arith, c.requires.1))), (goes_fits c.down-a.ensures)))
 
 pub loops-returns-then-n-gt5 : goal.loops-returns-then-n-gt5
 loops-returns-then-n-gt5 t c =
-    goes_as (node_for _ _ _ c.requires.1.0) (then c.down-a.ensures (loop_once c.if-n-gt5.true c.turn-a.ensures))
+    goes_as (node_for _ _ _ c.requires.0) (then c.down-a.ensures (loop_once c.if-n-gt5.true c.turn-a.ensures))
 
 pub loops-turn-a-requires-2 : goal.loops-turn-a-requires-2
 loops-turn-a-requires-2 t c =
-    (omega (arith, c.requires.0), ((node_more c.requires.1.2 (c.args.d + 1) (omega (arith, c.requires.1.1))), c.turn-a.ensures.does.fits))
+    (omega (arith, c.decreases), ((node_more c.requires.2 (c.args.d + 1) (omega (arith, c.requires.1))), c.turn-a.ensures.does.fits))
 
-pub loops-returns-then-n-gt5 : goal.loops-returns
-loops-returns-then-n-gt5 t c =
-    goes_as (node_for _ _ _ c.requires.1.0) (then c.down-a.ensures (loop_twice c.if-n-gt5.false c.turn-a.ensures c.turn-a-2.ensures))
+pub loops-returns : goal.loops-returns
+loops-returns t c =
+    goes_as (node_for _ _ _ c.requires.0) (then c.down-a.ensures (loop_twice c.if-n-gt5.false c.turn-a.ensures c.turn-a-2.ensures))
 
 pub modify-down-a-requires : goal.modify-down-a-requires
-modify-down-a-requires t c = (omega (arith, c.requires.0), (c.requires.1.1, c.requires.1.2))
+modify-down-a-requires t c = (omega (arith, c.decreases), (c.requires.1, c.requires.2))
 
 pub modify-down-b-requires : goal.modify-down-b-requires
-modify-down-b-requires t c = (omega (arith, c.requires.0), (c.requires.1.1, (goes_fits c.down-a.ensures)))
+modify-down-b-requires t c = (omega (arith, c.decreases), (c.requires.1, (goes_fits c.down-a.ensures)))
 
 pub modify-bind-x-requires : goal.modify-bind-x-requires
-modify-bind-x-requires t c = (node_zero c.requires.1.1, (goes_fits c.down-b.ensures))
+modify-bind-x-requires t c = (node_zero c.requires.1, (goes_fits c.down-b.ensures))
 
 pub modify-assign-requires : goal.modify-assign-requires
-modify-assign-requires t c = (omega (arith, c.requires.0), (c.requires.1.1, goes_fits (c.bind-x.ensures c.args.d)))
+modify-assign-requires t c = (omega (arith, c.decreases), (c.requires.1, goes_fits (c.bind-x.ensures c.args.d)))
 
 pub modify-returns : goal.modify-returns
 modify-returns t c =
-    goes_as (node_modify _ _ _ c.requires.1.0) (then c.down-a.ensures (then c.down-b.ensures (then (c.bind-x.ensures c.args.d) c.assign.ensures)))
+    goes_as (node_modify _ _ _ c.requires.0) (then c.down-a.ensures (then c.down-b.ensures (then (c.bind-x.ensures c.args.d) c.assign.ensures)))
 
 pub one-expr-requires : goal.one-expr-requires
-one-expr-requires t c =
-    (omega (arith, c.requires.0), (c.kind_at-k.ensures.0, c.if-k-ge14.true, c.requires.1.0, c.requires.1.2))
+one-expr-requires t c = (omega (arith, c.decreases), (c.kind_at-k.ensures.0, c.if-k-ge14.true, c.requires.0, c.requires.2))
 
 pub one-returns-then-k-ge14 : goal.one-returns-then-k-ge14
 one-returns-then-k-ge14 t c = c.expr.ensures
 
 pub one-block-requires : goal.one-block-requires
 one-block-requires t c =
-    (omega (arith, c.requires.0), (c.kind_at-k.ensures.0, c.if-k-ge8.true, c.if-k-ge14.false, c.requires.1.1, c.requires.1.0, c.requires.1.2))
+    (omega (arith, c.decreases), (c.kind_at-k.ensures.0, c.if-k-ge8.true, c.if-k-ge14.false, c.requires.1, c.requires.0, c.requires.2))
 
 pub one-returns-then-k-ge8 : goal.one-returns-then-k-ge8
 one-returns-then-k-ge8 t c = c.block.ensures
 
 pub one-stmt-requires : goal.one-stmt-requires
-one-stmt-requires t c =
-    (omega (arith, c.requires.0), (c.kind_at-k.ensures.0, c.if-k-ge8.false, c.requires.1.0, c.requires.1.2))
+one-stmt-requires t c = (omega (arith, c.decreases), (c.kind_at-k.ensures.0, c.if-k-ge8.false, c.requires.0, c.requires.2))
 
 pub one-returns : goal.one-returns
 one-returns t c = c.stmt.ensures
 
 pub over-overflow_add-e : goal.over-overflow_add-e
-over-overflow_add-e t c = omega (arith, c.size_at.ensures.0, node_few c.requires.1.1, c.requires.1.1.part.few)
+over-overflow_add-e t c = omega (arith, c.size_at.ensures.0, node_few c.requires.1, c.requires.1.part.few)
 
 pub over-down-requires : goal.over-down-requires
 over-down-requires t c =
-    let h : c.args.x < c.args.c + size_at c.args.t.now c.args.c = rw c.size_at.ensures.0 at c.if-x-e.true in let k = (clause_after c.args.t.now c.args.f c.requires.1.1 c.requires.1.0) in let b = below_ends c.requires.1.1 k h in (omega (arith, c.requires.0), (below_node c.requires.1.1 k h, c.requires.1.2))
+    let h : c.args.x < c.args.c + size_at c.args.t.now c.args.c = rw c.size_at.ensures.0 at c.if-x-e.true in let k = (clause_after c.args.t.now c.args.f c.requires.1 c.requires.0) in let b = below_ends c.requires.1 k h in (omega (arith, c.decreases), (below_node c.requires.1 k h, c.requires.2))
 
 pub over-returns-then-x-e : goal.over-returns-then-x-e
 over-returns-then-x-e t c =
-    let h : c.args.x < c.args.c + size_at c.args.t.now c.args.c = rw c.size_at.ensures.0 at c.if-x-e.true in let k = (clause_after c.args.t.now c.args.f c.requires.1.1 c.requires.1.0) in let b = below_ends c.requires.1.1 k h in goes_as (over_there _ _ c.requires.1.1 c.requires.1.0 h) c.down.ensures
+    let h : c.args.x < c.args.c + size_at c.args.t.now c.args.c = rw c.size_at.ensures.0 at c.if-x-e.true in let k = (clause_after c.args.t.now c.args.f c.requires.1 c.requires.0) in let b = below_ends c.requires.1 k h in goes_as (over_there _ _ c.requires.1 c.requires.0 h) c.down.ensures
 
 pub over-returns : goal.over-returns
 over-returns t c =
-    let h : c.args.c + size_at c.args.t.now c.args.c ≤ c.args.x = rw c.size_at.ensures.0 at c.if-x-e.false in goes_as (over_none _ _ c.requires.1.1 c.requires.1.0 h) (skips c.requires.1.2)
+    let h : c.args.c + size_at c.args.t.now c.args.c ≤ c.args.x = rw c.size_at.ensures.0 at c.if-x-e.false in goes_as (over_none _ _ c.requires.1 c.requires.0 h) (skips c.requires.2)
 
 pub rest-bound-a-requires : goal.rest-bound-a-requires
-rest-bound-a-requires t c = (omega (arith, c.requires.0), (c.requires.1.0, c.requires.1.1, c.requires.1.2))
+rest-bound-a-requires t c = (omega (arith, c.decreases), (c.requires.0, c.requires.1, c.requires.2))
 
 pub rest-down-b-requires : goal.rest-down-b-requires
-rest-down-b-requires t c = (omega (arith, c.requires.0), (c.requires.1.1, (goes_fits c.bound-a.ensures)))
+rest-down-b-requires t c = (omega (arith, c.decreases), (c.requires.1, (goes_fits c.bound-a.ensures)))
 
-pub rest-down-b-requires : goal.rest-down-requires
-rest-down-b-requires t c = (omega (arith, c.requires.0), (c.requires.1.1, (goes_fits c.down-b.ensures)))
+pub rest-down-requires : goal.rest-down-requires
+rest-down-requires t c = (omega (arith, c.decreases), (c.requires.1, (goes_fits c.down-b.ensures)))
 
 pub rest-returns : goal.rest-returns
 rest-returns t c = then c.bound-a.ensures (then c.down-b.ensures c.down.ensures)
 
 pub ret-down-a-requires : goal.ret-down-a-requires
-ret-down-a-requires t c = (omega (arith, c.requires.0), (c.requires.1.1, c.requires.1.2))
+ret-down-a-requires t c = (omega (arith, c.decreases), (c.requires.1, c.requires.2))
 
 pub ret-returns : goal.ret-returns
-ret-returns t c = return_node _ _ _ c.requires.1.0 c.down-a.ensures c.stop.ensures
+ret-returns t c = return_node _ _ _ c.requires.0 c.down-a.ensures c.stop.ensures
 
 pub side-down-a-requires : goal.side-down-a-requires
-side-down-a-requires t c = (omega (arith, c.requires.0), (c.requires.1.0, c.requires.1.1))
+side-down-a-requires t c = (omega (arith, c.decreases), (c.requires.0, c.requires.1))
 
 pub side-join-requires : goal.side-join-requires
 side-join-requires t c =
-    (back_fits c.back-b.ensures c.requires.1.1 (goes_fits c.down-a.ensures) c.down-a.ensures.does.kept).settings
+    (back_fits c.back-b.ensures c.requires.1 (goes_fits c.down-a.ensures) c.down-a.ensures.does.kept).settings
 
 pub side-returns : goal.side-returns
 side-returns t c =
-    sides_to (methods _) c.requires.1.1 c.down-a.ensures c.back-b.ensures (skips (back_fits c.back-b.ensures c.requires.1.1 (goes_fits c.down-a.ensures) c.down-a.ensures.does.kept)) c.join.ensures
+    sides_to (methods _) c.requires.1 c.down-a.ensures c.back-b.ensures (skips (back_fits c.back-b.ensures c.requires.1 (goes_fits c.down-a.ensures) c.down-a.ensures.does.kept)) c.join.ensures
 
 pub step-one-requires : goal.step-one-requires
-step-one-requires t c = (omega (arith, c.requires.0), (c.requires.1.0, c.requires.1.1, c.requires.1.2))
+step-one-requires t c = (omega (arith, c.decreases), (c.requires.0, c.requires.1, c.requires.2))
 
 pub step-returns-then-wanted : goal.step-returns-then-wanted
 step-returns-then-wanted t c = pick_true _ (sym c.wanted.ensures ∙ c.if-wanted.true) _ _ c.one.ensures
 
 pub step-returns : goal.step-returns
-step-returns t c = pick_false _ (sym c.wanted.ensures ∙ c.if-wanted.false) _ _ (skips c.requires.1.2)
+step-returns t c = pick_false _ (sym c.wanted.ensures ∙ c.if-wanted.false) _ _ (skips c.requires.2)
 
 pub stmt-ret-requires : goal.stmt-ret-requires
-stmt-ret-requires t c =
-    (omega (arith, c.requires.0), ((sym c.requires.1.0 ∙ c.if-k-eq4.true), c.requires.1.2, c.requires.1.3))
+stmt-ret-requires t c = (omega (arith, c.decreases), ((sym c.requires.0 ∙ c.if-k-eq4.true), c.requires.2, c.requires.3))
 
 pub stmt-returns-then-k-eq4 : goal.stmt-returns-then-k-eq4
 stmt-returns-then-k-eq4 t c = c.ret.ensures
 
 pub stmt-eval-requires : goal.stmt-eval-requires
-stmt-eval-requires t c =
-    (omega (arith, c.requires.0), ((sym c.requires.1.0 ∙ c.if-k-eq5.true), c.requires.1.2, c.requires.1.3))
+stmt-eval-requires t c = (omega (arith, c.decreases), ((sym c.requires.0 ∙ c.if-k-eq5.true), c.requires.2, c.requires.3))
 
 pub stmt-returns-then-k-eq5 : goal.stmt-returns-then-k-eq5
 stmt-returns-then-k-eq5 t c = c.eval.ensures
 
 pub stmt-gets-requires : goal.stmt-gets-requires
-stmt-gets-requires t c =
-    (omega (arith, c.requires.0), ((sym c.requires.1.0 ∙ c.if-k-eq6.true), c.requires.1.2, c.requires.1.3))
+stmt-gets-requires t c = (omega (arith, c.decreases), ((sym c.requires.0 ∙ c.if-k-eq6.true), c.requires.2, c.requires.3))
 
 pub stmt-returns-then-k-eq6 : goal.stmt-returns-then-k-eq6
 stmt-returns-then-k-eq6 t c = c.gets.ensures
 
 pub stmt-modify-requires : goal.stmt-modify-requires
-stmt-modify-requires t c =
-    (omega (arith, c.requires.0), ((sym c.requires.1.0 ∙ c.if-k-eq7.true), c.requires.1.2, c.requires.1.3))
+stmt-modify-requires t c = (omega (arith, c.decreases), ((sym c.requires.0 ∙ c.if-k-eq7.true), c.requires.2, c.requires.3))
 
 pub stmt-returns-then-k-eq7 : goal.stmt-returns-then-k-eq7
 stmt-returns-then-k-eq7 t c = c.modify.ensures
 
 pub stmt-returns-then-k-eq1 : goal.stmt-returns-then-k-eq1
 stmt-returns-then-k-eq1 t c =
-    goes_as (node_break _ _ _ (sym c.requires.1.0 ∙ c.if-k-eq1.true)) (stop_to _ Loop refl c.stop.ensures c.requires.1.3)
+    goes_as (node_break _ _ _ (sym c.requires.0 ∙ c.if-k-eq1.true)) (stop_to _ Loop refl c.stop.ensures c.requires.3)
 
 pub stmt-returns-then-k-eq2 : goal.stmt-returns-then-k-eq2
 stmt-returns-then-k-eq2 t c =
-    goes_as (node_continue _ _ _ (sym c.requires.1.0 ∙ c.if-k-eq2.true)) (stop_to _ Loop refl c.stop-then-k-eq2.ensures c.requires.1.3)
+    goes_as (node_continue _ _ _ (sym c.requires.0 ∙ c.if-k-eq2.true)) (stop_to _ Loop refl c.stop-then-k-eq2.ensures c.requires.3)
 
 pub stmt-down-requires : goal.stmt-down-requires
-stmt-down-requires t c = (omega (arith, c.requires.0), (c.requires.1.2, c.requires.1.3))
+stmt-down-requires t c = (omega (arith, c.decreases), (c.requires.2, c.requires.3))
 
 pub stmt-returns : goal.stmt-returns
 stmt-returns t c =
-    goes_as (node_statement _ _ _ c.args.k (sym c.requires.1.0) c.requires.1.1 c.if-k-eq1.false c.if-k-eq2.false c.if-k-eq4.false c.if-k-eq5.false c.if-k-eq6.false c.if-k-eq7.false) c.down.ensures
+    goes_as (node_statement _ _ _ c.args.k (sym c.requires.0) c.requires.1 c.if-k-eq1.false c.if-k-eq2.false c.if-k-eq4.false c.if-k-eq5.false c.if-k-eq6.false c.if-k-eq7.false) c.down.ensures
 
 pub turn-assign-x-requires : goal.turn-assign-x-requires
-turn-assign-x-requires t c = (omega (arith, c.requires.0), (c.requires.1.0, c.requires.1.1))
+turn-assign-x-requires t c = (omega (arith, c.decreases), (c.requires.0, c.requires.1))
 
 pub turn-down-a-requires : goal.turn-down-a-requires
-turn-down-a-requires t c = (omega (arith, c.requires.0), (c.requires.1.0, (goes_fits c.assign-x.ensures)))
+turn-down-a-requires t c = (omega (arith, c.decreases), (c.requires.0, (goes_fits c.assign-x.ensures)))
 
 pub turn-join-j-requires : goal.turn-join-j-requires
 turn-join-j-requires t c =
-    (back_fits c.back-b.ensures c.requires.1.1 (goes_fits c.down-a.ensures) (regroup (then c.assign-x.ensures c.down-a.ensures)).does.kept).settings
+    (back_fits c.back-b.ensures c.requires.1 (goes_fits c.down-a.ensures) (regroup (then c.assign-x.ensures c.down-a.ensures)).does.kept).settings
 
 pub turn-returns : goal.turn-returns
 turn-returns t c =
-    turns_to (methods _) c.requires.1.1 (regroup (then c.assign-x.ensures c.down-a.ensures)) c.back-b.ensures c.join-j.ensures c.unlooped.ensures
+    turns_to (methods _) c.requires.1 (regroup (then c.assign-x.ensures c.down-a.ensures)) c.back-b.ensures c.join-j.ensures c.unlooped.ensures
 
 pub visit-loop-c-init : goal.visit-loop-c-init
-visit-loop-c-init t c = (omega arith, c.requires.1.0, c.requires.1.2, refl, λ v y g. g)
+visit-loop-c-init t c = (omega arith, c.requires.0, c.requires.2, refl, λ v y g. g)
 
 pub visit-step-z-requires : goal.visit-step-z-requires
 visit-step-z-requires t c =
-    let p = c.loop-c.invariant.1 in let n = ended p c.loop-c-test.true in (omega (arith, c.requires.0, c.loop-c.invariant.0), (node_in_part p c.loop-c-test.true (omega (arith, c.requires.1.1, c.loop-c.invariant.0)), omega (arith, c.requires.1.1, c.loop-c.invariant.0), c.loop-c.invariant.2))
+    let p = c.loop-c.invariant.1 in let n = ended p c.loop-c-test.true in (omega (arith, c.decreases, c.loop-c.invariant.0), (node_in_part p c.loop-c-test.true (omega (arith, c.requires.1, c.loop-c.invariant.0)), omega (arith, c.requires.1, c.loop-c.invariant.0), c.loop-c.invariant.2))
 
 pub visit-overflow_add-c : goal.visit-overflow_add-c
 visit-overflow_add-c t c =
