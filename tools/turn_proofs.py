@@ -91,7 +91,7 @@ def blocks(text):
     out, cur = [], []
     for l in lines:
         starts = l and not l[0].isspace()
-        if starts and re.match(r"(use |abbrev |pub |module |unfoldable |data |record |[^\s]+ : )", l) or (starts and l.startswith("--")):
+        if starts and re.match(r"(use |abbrev |pub |module |unfoldable |data |record |[^\s]+ :(?: |$))", l) or (starts and l.startswith("--")):
             if cur and not (all(x.startswith("--") for x in cur if x.strip()) and any(x.strip() for x in cur)):
                 out.append(cur)
                 cur = []

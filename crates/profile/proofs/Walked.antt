@@ -64,7 +64,7 @@ unfolding walk
 walk_is s earlier leaf = refl
 walk_is {a} {above} s earlier (node h k f) =
     ap₂ (λ (x y : List Rec). x ++ y) (own_is s earlier h)
-    (ap₂ (λ (x y : List Rec). x ++ y) (walk_is (says_below s h) [] k) (walk_is s (earlier ++ (h ∷ [])) f)
+    (ap₂ (λ (x y : List Rec). x ++ y) (walk_is {a = below a h} {above = h ∷ above} (says_below s h) [] k) (walk_is s (earlier ++ (h ∷ [])) f)
     ∙ sym (turn_append (stands (h ∷ above) [] k) (stands above (earlier ++ (h ∷ [])) f)))
 
 -- THE ONE WALK gives the list

@@ -2,7 +2,7 @@
 use Prim.Native.Nat.{ℕ, zero, suc, ◌+◌, ◌-◌, ◌≤◌, ◌<◌}
 use native.Mathlib.Omega.{arith}
 use native.Mathlib.Decide.{dec_lt}
-use mathlib.Core.Path.{◌≡◌, refl, sym, ap, ◌∙◌}
+use mathlib.Core.Path.{◌≡◌, refl, sym, ap, subst, ◌∙◌}
 use mathlib.Core.Bool.{Bool, true, false, ◌||◌, ◌&&◌}
 use mathlib.Core.List.{List, [], ◌∷◌}
 use mathlib.Core.Logic.{◌⊎◌, inl, inr}
@@ -374,7 +374,9 @@ module _ (t w : List ℕ) (i : ℕ) (es : List Entry) where
             high = omega arith;
             base = rw (base_is l) l;
             present = rw (base_is l) p;
-            looked = rw (base_is l) (found_here o outer (standing_in t w es o.first o.settings i) f n h (room_level o f h) p);
+            looked = subst (λ (x : ℕ). look_out (value_at t i) (rooms_of t w (o ∷ outer))
+                ≡ record { found = found_of (standing_in t w es x o.settings i); rooms = rooms_of t (marks_of t es i w x o.settings) (o ∷ outer) })
+                (sym (base_is l)) (found_here o outer (standing_in t w es o.first o.settings i) f n h (room_level o f h) p);
           }))
 
   under_of : (outer : List Scope) (s : Scope) → ((k : ℕ) → k < s.first → get_or s.entries k no_entry ≡ get_or es k no_entry) → Inside w s outer → Under outer s.first

@@ -84,19 +84,11 @@ pub last-returns : goal.last-returns
 last-returns t c =
     last_checked c.args.loops c.args.r c.requires.0 c.last_of-j.ensures (page c.args.out.now c.args.s) c.if-e-j.false c.check.ensures
 
-sides-last-requires :
-    (t : ℕ) → sides-lts.Need-last-requires (sides-calls t) (sides-at t) sides.Post
-sides-last-requires t c κs =
-    (omega (arith, c.decreases), c.requires)
+pub sides-last-r-requires : goal.sides-last-r-requires
+sides-last-r-requires t c = (omega (arith, c.decreases), c.requires)
 
-sides-last-requires-2 :
-    (t : ℕ) → sides-lts.Need-last-requires-2 (sides-calls t) (sides-at t) sides.Post
-sides-last-requires-2 t c κs =
-    (omega (arith, c.decreases), c.requires)
-
-sides-same-length :
-    (t : ℕ) → sides-lts.Need-same-length (sides-calls t) (sides-at t) sides.Post
-sides-same-length t c = search rules
+pub sides-last-requires : goal.sides-last-requires
+sides-last-requires t c = (omega (arith, c.decreases), c.requires)
 
 pub sides-returns : goal.sides-returns
 sides-returns t c = walked_both (page c.args.out.now c.args.s) _ _ c.last-r.ensures c.last.ensures

@@ -29,4 +29,4 @@ pub shape_of-out : goal.shape_of-out
 shape_of-out c = c.loop-j.invariant.1.long
 
 pub returns : goal.returns
-returns c = gone_end c.loop-j.invariant.1 (bare_past _ _ _ c.args.t.now c.loop-j.j c.args.e c.loop-j-test.false)
+returns c = gone_end c.loop-j.invariant.1 (bare_past (node_head c.args.t.now c.args.i) (node_spot c.args.t.now c.args.name) (node_head c.args.t.now c.args.why) c.args.t.now c.loop-j.j c.args.e c.loop-j-test.false)
