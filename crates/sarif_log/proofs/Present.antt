@@ -125,23 +125,23 @@ count_more true n h = omega arith
 count_more false n h = h
 
 -- a record counts for its code
-among : (rs : List Rec) (r : Rec) → Memᴰ r rs → 0 < count_of r.code rs
-among rs r (Memᴰ.head {x = s} {xs = ss} e) = rw (e, so (eqb s.code s.code) (eqb_refl s.code)) (omega arith)
-among rs r (Memᴰ.tail {x = s} {xs = ss} m) = count_more (eqb r.code s.code) (count_of r.code ss) (among ss r m)
+among : (r : Rec) (rs : List Rec) → Memᴰ r rs → 0 < count_of r.code rs
+among r rs (Memᴰ.head {x = s} {xs = ss} e) = rw (e, so (eqb s.code s.code) (eqb_refl s.code)) (omega arith)
+among r rs (Memᴰ.tail {x = s} {xs = ss} m) = count_more (eqb r.code s.code) (count_of r.code ss) (among r ss m)
 
-fit_of : (rs : List Rec) (r : Rec) → Memᴰ r rs → Each Fit rs → Fit r
-fit_of rs r (Memᴰ.head {x = s} {xs = ss} e) h = subst Fit (sym e) h.0
-fit_of rs r (Memᴰ.tail {x = s} {xs = ss} m) h = fit_of ss r m h.1
+fit_of : (r : Rec) (rs : List Rec) → Memᴰ r rs → Each Fit rs → Fit r
+fit_of r rs (Memᴰ.head {x = s} {xs = ss} e) h = subst Fit (sym e) h.0
+fit_of r rs (Memᴰ.tail {x = s} {xs = ss} m) h = fit_of r ss m h.1
 
 -- AT A RESULT'S INDEX STANDS THE RULE OF ITS CODE
 pub index_right : (rs : List Rec) → Each Fit rs → (r : Rec) → Memᴰ r rs
     → nth (rules 1 (full_tally_of rs)) (index_of (full_tally_of rs) r.code) ≡ some (rule r.code)
 unfolding index_of
 index_right rs h r m =
-    let fit = fit_of rs r m h in
+    let fit = fit_of r rs m h in
     let c = r.code in
     let k : 1 + (c - 1) ≡ c = omega arith in
     let at : get_or (full_tally_of rs) (c - 1) 0 ≡ count_of c rs
     = count_at (λ d. count_of d rs) all_codes 1 (c - 1) (omega arith) ∙ ap (λ (d : ℕ). count_of d rs) k in
-    let p = among rs r m in
+    let p = among r rs m in
     nth_rule (full_tally_of rs) (c - 1) 1 (rw at p) ∙ ap (λ (d : ℕ). some (rule d)) k

@@ -13,8 +13,8 @@ first_nodes-requires c = (c.requires.0.part, c.walked-r.ensures.0, omega (arith,
 pub returns : goal.returns
 returns c =
     let walked = c.walked-r in
-    let long : work_words ≤ length walked.new.1.1.0 = omega (arith, c.requires.1, walked.auto.1.1.0) in
-    let e = walk_records c.args.t.now c.args.n c.requires.0.part walked.new.1.1.0 walked.result walked.ensures.0 long walked.ensures.1 in (
+    let long : work_words ≤ length walked.new.w = omega (arith, c.requires.1, walked.auto.w) in
+    let e = walk_records c.args.t.now c.args.n c.requires.0.part walked.new.w walked.result walked.ensures.0 long walked.ensures.1 in (
       rw e at (rw c.first_nodes.ensures at c.answer_of-a.ensures),
-      c.clear.ensures ∙ ap (λ (n : ℕ). replicate n 0) (c.first_nodes.auto.w ∙ walked.auto.1.1.0),
+      c.clear.ensures ∙ ap (λ (n : ℕ). replicate n 0) (c.first_nodes.auto.w ∙ walked.auto.w),
     )

@@ -3,7 +3,7 @@ use Rattle.json_text.specs.Text.{lines}
 use Rattle.sarif_log.specs.Log.{rules}
 use lib.ListN.{length}
 use mathlib.Core.Bool.{true}
-use borrow.Author.Rules.{rules}
+use borrow.Author.Rules.{rules as search_rules}
 use Prim.Native.Nat.{◌+◌, ◌*◌, ◌-◌, ◌≤◌, suc}
 use mathlib.Core.Path.{◌≡◌, refl}
 use native.Mathlib.Omega.{arith}
@@ -13,7 +13,7 @@ use Rattle.sarif_log.proofs.rules.Goals as goal
 pub loop-code-init : goal.loop-code-init
 loop-code-init c =
     let a = c.args in
-    (omega arith, omega arith, search rules, refl, turning_first a.out.now a.n (lines true (rules 1 a.tally)) (rules_left a.tally 1) (rules_all a.tally))
+    (omega arith, omega arith, search search_rules, refl, turning_first a.out.now a.n (lines true (rules 1 a.tally)) (rules_left a.tally 1) (rules_all a.tally))
 
 pub rule_if-at-requires : goal.rule_if-at-requires
 rule_if-at-requires c = (c.loop-code.invariant.0, omega arith)

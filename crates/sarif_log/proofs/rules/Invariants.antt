@@ -3,7 +3,6 @@ use Rattle.json_text.specs.Text.{lines}
 use Rattle.sarif_log.specs.Log.{rules}
 use lib.ListN.{length}
 use mathlib.Core.Bool.{true}
-use borrow.Author.Rules.{rules}
 use Prim.Native.Nat.{◌+◌, ◌*◌, ◌-◌, ◌≤◌, suc}
 use mathlib.Core.Path.{◌≡◌, refl}
 use native.Mathlib.Omega.{arith}

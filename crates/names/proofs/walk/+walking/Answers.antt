@@ -25,33 +25,6 @@ use Rattle.names.proofs.walk.eval.Reads as eval
 use Rattle.names.proofs.walk.step.Reads as step
 use Rattle.names.proofs.walk.assign.Reads as assign
 use Rattle.names.proofs.walk.visit.Reads as visit
-use Base.{μ-gets, μ-bound, μ-branch, μ-clause, μ-later, μ-block, μ-comp, μ-cond, μ-def, μ-down, μ-expr, μ-body, μ-rest, μ-lambda, μ-modify, μ-one, μ-over, μ-ret, μ-turn, μ-loops, μ-side, μ-stmt, μ-eval, μ-step, μ-assign, μ-visit, gets-at, gets-calls, bound_at, bound-calls, branch-at, branch-calls, clause-at, clause-calls, later-at, later-calls, block_at, block-calls, comp-at, comp-calls, cond-at, cond-calls, def_at, def-calls, down-at, down-calls, expr-at, expr-calls, body_at, body-calls, rest_at, rest-calls, lambda-at, lambda-calls, modify-at, modify-calls, one_at, one-calls, over-at, over-calls, ret_at, ret-calls, turn_at, turn-calls, loops-at, loops-calls, side-at, side-calls, stmt-at, stmt-calls, eval-at, eval-calls, step-at, step-calls, assign-at, assign-calls, visit-at, visit-calls}
-use Assign.{assign-down-requires, assign-bind-requires, assign-same-length, assign-returns}
-use Block.{block-down-requires, block-same-length, block-returns, block-def-requires, block-same-length-2, block-returns-2, block-bind-requires, block-same-length-3, block-returns-3, block-loops-requires, block-same-length-4, block-returns-4, block-cond-requires, block-same-length-5, block-returns-5}
-use Body.{body-enter-requires, body-bind-requires, body-down-requires, body-leave-requires, body-same-length, body-returns}
-use Bound.{bound-size-at-requires, bound-add-e, bound-assign-requires, bound-later-requires, bound-same-length, bound-returns, bound-returns-2}
-use Branch.{branch-down-requires, branch-back-requires, branch-down-requires-2, branch-join-requires, branch-same-length, branch-returns}
-use Clause.{clause-role-at-requires, clause-returns, clause-down-requires, clause-assign-requires, clause-same-length, clause-returns-2}
-use Comp.{comp-size-at-requires, comp-add-e, comp-add-child-of, comp-child-of-requires, comp-over-requires, comp-enter-requires, comp-rest-requires, comp-leave-requires, comp-same-length, comp-returns}
-use Cond.{cond-down-requires, cond-side-requires, cond-same-length, cond-returns, cond-branch-requires, cond-same-length-2, cond-returns-2}
-use Def.{def-down-requires, def-down-requires-2, def-bind-requires, def-body-requires, def-same-length, def-returns}
-use Down.{down-size-at-requires, down-add-e, down-add-visit, down-visit-requires, down-same-length, down-returns}
-use Eval.{eval-down-requires, eval-size-at-requires, eval-add-e, eval-add-is-fail, eval-is-fail-requires, eval-stop-requires, eval-same-length, eval-returns, eval-same-length-2, eval-returns-2}
-use Expr.{expr-used-requires, expr-same-length, expr-returns, expr-lambda-requires, expr-same-length-2, expr-returns-2, expr-comp-requires, expr-same-length-3, expr-returns-3, expr-comp-requires-2, expr-same-length-4, expr-returns-4, expr-down-requires, expr-same-length-5, expr-returns-5}
-use Gets.{gets-down-requires, gets-down-requires-2, gets-assign-requires, gets-same-length, gets-returns}
-use Lambda.{lambda-down-requires, lambda-body-requires, lambda-same-length, lambda-returns}
-use Later.{later-Inv-loop, later-μ-loop, later-size-at-requires, later-add-e, later-size-at-requires-2, later-add-i, later-loop-holds, later-clause-requires, later-size-at-requires-3, later-add-i-2, later-loop-less, later-loop-again, later-same-length, later-returns}
-use Loops.{loops-add-n, loops-down-requires, loops-turn-requires, loops-same-length, loops-returns, loops-turn-requires-2, loops-same-length-2, loops-returns-2}
-use Modify.{modify-down-requires, modify-down-requires-2, modify-bind-requires, modify-assign-requires, modify-same-length, modify-returns}
-use One.{one-kind-at-requires, one-expr-requires, one-same-length, one-returns, one-block-requires, one-same-length-2, one-returns-2, one-stmt-requires, one-same-length-3, one-returns-3}
-use Over.{over-size-at-requires, over-add-e, over-down-requires, over-same-length, over-returns, over-returns-2}
-use Rest.{rest-bound-requires, rest-down-requires, rest-down-requires-2, rest-same-length, rest-returns}
-use Ret.{ret-down-requires, ret-stop-requires, ret-same-length, ret-returns}
-use Side.{side-down-requires, side-back-requires, side-join-requires, side-same-length, side-returns}
-use Step.{step-wanted-requires, step-one-requires, step-same-length, step-returns, step-returns-2}
-use Stmt.{stmt-ret-requires, stmt-same-length, stmt-returns, stmt-eval-requires, stmt-same-length-2, stmt-returns-2, stmt-gets-requires, stmt-same-length-3, stmt-returns-3, stmt-modify-requires, stmt-same-length-4, stmt-returns-4, stmt-stop-requires, stmt-returns-5, stmt-stop-requires-2, stmt-returns-6, stmt-down-requires, stmt-same-length-5, stmt-returns-7}
-use Turn.{turn-assign-requires, turn-down-requires, turn-back-requires, turn-join-requires, turn-unlooped-requires, turn-same-length, turn-returns}
-use Visit.{visit-Inv-loop, visit-μ-loop, visit-loop-holds, visit-step-requires, visit-size-at-requires, visit-add-c, visit-loop-less, visit-loop-again, visit-same-length, visit-returns}
 use borrow.Author.Rules.{rules}
 use Prim.Native.Nat.{ℕ, ◌-◌, ◌<◌, ◌+◌, ◌*◌, ◌≤◌}
 use native.Mathlib.Omega.{arith}
