@@ -98,7 +98,7 @@ pub fn sarif(
     answer: &mut [u32],
     output: &mut [u8],
 ) -> Answer
-    ensures { record { answer = result; work = work.new; room = answer.exit.now; output = output.new } ≡ sarif_call chosen mode t.now work.old answer.entry.now output.old }
+    ensures { record { answer = result; work = work.new; room = answer.new; output = output.new } ≡ sarif_call chosen mode t.now work.old answer.old output.old }
 {
     let mut list = [0u32; ROOM];
     let a = lint::profiled(t, mode, chosen, work, &mut list);

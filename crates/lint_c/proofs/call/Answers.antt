@@ -9,4 +9,4 @@ returns c =
     let a = c.args in
     let l = c.profiled in
     let t = c.tell in
-    told a.chosen a.mode a.t.now a.work.now a.out.now a.report.now (in_full l.result) l.new.1.1.1.0 l.new.1.1.1.1.0 t.new.1.1.0 t.result l.ensures t.ensures.0 t.ensures.1
+    told a.chosen a.mode a.t.now a.work.now a.out.now a.report.now (in_full l.result) l.new.work l.new.out t.new.report t.result l.ensures t.ensures.0 t.ensures.1

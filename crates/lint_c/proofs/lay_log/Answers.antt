@@ -18,12 +18,12 @@ returns-then-last-report c =
     let a = c.args in
     let l = c.lay in
     let m = c.told-last in
-    laid_more (m.result + 1) (a.place ∷ take (codes_of a.chosen) a.tally) a.report.now l.new.1.1.1.0 a.bytes (omega (arith, length-take (codes_of a.chosen) a.tally)) l.ensures
+    laid_more (m.result + 1) (a.place ∷ take (codes_of a.chosen) a.tally) a.report.now l.new.report a.bytes (omega (arith, length-take (codes_of a.chosen) a.tally)) l.ensures
 
 pub returns-else-last-report : goal.returns-else-last-report
 returns-else-last-report c =
     let a = c.args in
     let l = c.lay in
     let m = c.told-last in
-    sym (set_out l.new.1.1.1.0 (m.result + 1) a.bytes (omega arith))
-    ∙ laid_more (m.result + 1) (a.place ∷ take (codes_of a.chosen) a.tally) a.report.now l.new.1.1.1.0 a.bytes (omega (arith, length-take (codes_of a.chosen) a.tally)) l.ensures
+    sym (set_out l.new.report (m.result + 1) a.bytes (omega arith))
+    ∙ laid_more (m.result + 1) (a.place ∷ take (codes_of a.chosen) a.tally) a.report.now l.new.report a.bytes (omega (arith, length-take (codes_of a.chosen) a.tally)) l.ensures

@@ -8,4 +8,4 @@ returns c =
     let a = c.args in
     let s = c.sarif-a in
     let t = c.tell_log in
-    logged a.chosen a.mode a.t.now a.work.now a.out.now a.output.now a.report.now s.result s.new.1.1.1.0 s.new.1.1.1.1.0 s.new.1.1.1.1.1.0 t.new.1.1.0 t.result s.ensures t.ensures.0 t.ensures.1
+    logged a.chosen a.mode a.t.now a.work.now a.out.now a.output.now a.report.now s.result s.new.work s.new.answer s.new.output t.new.report t.result s.ensures t.ensures.0 t.ensures.1

@@ -28,10 +28,10 @@ pub loop-k-preserved : goal.loop-k-preserved
 loop-k-preserved c =
     let l = c.loop-k in
     let a = c.args in
-    let b = get_or a.t1 l.k 0 in (
+    let b = get_or a.bytes l.k 0 in (
       omega arith,
       length-set l.name l.k b ∙ l.invariant.1,
-      ap (λ (r : List ℕ). set r l.k b) l.invariant.2 ∙ over_more a.t1 a.name.now l.k (omega arith) (omega arith),
+      ap (λ (r : List ℕ). set r l.k b) l.invariant.2 ∙ over_more a.bytes a.name.now l.k (omega arith) (omega arith),
     )
 
 pub returns : goal.returns
@@ -39,4 +39,4 @@ returns c =
     let l = c.loop-k in
     let a = c.args in
     let e : l.k ≡ a.n = omega arith in
-    l.invariant.2 ∙ ap (λ (j : ℕ). over j a.t1 a.name.now) e
+    l.invariant.2 ∙ ap (λ (j : ℕ). over j a.bytes a.name.now) e
