@@ -10,15 +10,14 @@ import struct
 import subprocess
 
 ROOT = pathlib.Path(__file__).resolve().parent.parent
-STRICT, LOG, PROFILE, ACCEPTED, TWO, TALLY, ROOMS = (1 << bit for bit in (0, 1, 2, 3, 5, 14, 15))
+STRICT, LOG, ACCEPTED, TWO, TALLY, ROOMS = (1 << bit for bit in (0, 1, 3, 5, 14, 15))
 # No valid tree has more bytes.
 LONGEST = 11 + 1024 * 16 + 512 * (3 + 255) + 512 * 2
 LISTINGS = ROOT / "examples" / "listings.txt"
 HEAD = """\
 # Listings of the sample trees and of the tree of examples/log.py: by the Rust, and with --strict by document 01's rules as
-# compare/ has them, since the Rust has no strict keys. The reasons of equal keys (the seventh and eighth number of code 16), the
-# nodes (the last two numbers of each record) and with --profile the codes 18 to 22 (02, §10) are the rules' too. Written by
-# `examples/check --write`.
+# compare/ has them, since the Rust has no strict keys. The reasons of equal keys (the seventh and eighth number of code 16) and the
+# nodes (the last two numbers of each record) are the rules' too. Written by `examples/check --write`.
 """
 
 
@@ -73,25 +72,18 @@ def beside_rust(tree, listing):
     return first_eight(listing)
 
 
-# examples/listings.txt: a line `$ NAME`, with --strict, --profile or both before the name, then the listing.
+# examples/listings.txt: a line `$ NAME` or `$ --strict NAME`, then the listing.
 
 
-def options(strict, profile):
-    return ["--strict"] * strict + ["--profile"] * profile
-
-
-def listings(profile=False):
-    """The listings by name and whether keys are strict: those without the profile, or those with it."""
+def listings():
+    """The listings by name and whether keys are strict."""
     out = {}
     for part in LISTINGS.read_text().split("$ ")[1:]:
         head, text = part.split("\n", 1)
-        *asked, name = head.split()
-        if ("--profile" in asked) == profile:
-            out[name, "--strict" in asked] = text.encode()
+        out[head.removeprefix("--strict "), head.startswith("--strict ")] = text.encode()
     return out
 
 
 def write_listings(found):
-    """Listings by name, whether keys are strict, and whether with the profile."""
-    parts = [f"$ {' '.join([*options(*how), name])}\n{text.decode()}" for (name, *how), text in found.items()]
+    parts = [f"$ {'--strict ' if strict else ''}{name}\n{text.decode()}" for (name, strict), text in found.items()]
     LISTINGS.write_text(HEAD + "".join(parts))

@@ -31,11 +31,6 @@ PHRASES = {
     15: "Duplicate top-level assignment of",
     16: "Duplicate dictionary key",
     17: "Statement that does nothing or fails: variable",
-    18: "An if or for statement outside every def",
-    19: "Return outside a def",
-    20: "Break or continue outside a loop",
-    21: "A load statement inside an if, a for or a def",
-    22: "Duplicate parameter",
 }
 # Why two keys are equal, by the number that stands in the place of a third span; their code alone has one.
 REASONS = {int(number): words for number, words in re.findall(r"^reason (\d+)\n  says: (.*)$", TABLE, re.MULTILINE)}
@@ -48,7 +43,6 @@ OTHERS = {
     8: ("why the function wants a value",),
     15: ("first defined here",),
     16: ("the equal key after it",),
-    22: ("first parameter of that name",),
 }
 # "warning, or none for disabled"; a level none belongs beside a kind other than fail.
 LEVELS = {"warning": "warning", "disabled": "none"}

@@ -30,17 +30,15 @@
 extern "C" {
 #endif
 
-/* Version 3.2.0 of this header, as major * 10000 + minor * 100 + patch. Major goes up where the layout of a call, a record or a
+/* Version 3.1.0 of this header, as major * 10000 + minor * 100 + patch. Major goes up where the layout of a call, a record or a
  * report changes, or a number gets another meaning, so that a program has to be changed; minor where a call, a code, a refusal
  * or a version of tree files is added or a size below grows, so that it has to be compiled anew at most; patch with any other change.
- * From 3.1.0: the four calls with the profile, and codes 18 to 22, which these alone give; yudronkha_short_name has names for them.
- * No program has to be changed.
  * From 3.0.1: tree files of version 2 are taken, too. No program has to be changed.
  * From 3.0.0: with strict keys whole floats of 2^53 and more are their integers, too. No program has to be changed.
  * From 2.0.0: a record has ten words, the first eight as they were. A program that steps through the answer room and sizes it by
  * YUDRONKHA_RECORD_WORDS is compiled anew; one that has an 8 there is changed (81,920 words were room for 10,240 records). No
  * call's parameters, no other number and no report changed. */
-#define YUDRONKHA_VERSION 30200
+#define YUDRONKHA_VERSION 30100
 
 /* Sizes, in elements of each room. */
 #define YUDRONKHA_TREE_BYTES_MOST 149515 /* no valid tree is longer; a longer one gets its refusal like any other bytes */
@@ -48,7 +46,7 @@ extern "C" {
 #define YUDRONKHA_RECORD_WORDS 10        /* words of one record */
 #define YUDRONKHA_RECORDS_MOST 10240     /* no valid tree has more records: with room for these, which is 102,400 words or 409,600
                                             bytes, 11 is never answered */
-#define YUDRONKHA_CODES 17               /* codes are 1 to 17, with the profile more: below */
+#define YUDRONKHA_CODES 17               /* codes are 1 to 17 */
 #define YUDRONKHA_NAME_BYTES 26          /* the longest short name of a code */
 #define YUDRONKHA_REPORT_WORDS 18        /* a whole report: word 0, then one word for each code */
 #define YUDRONKHA_SARIF_REPORT_WORDS 19  /* a log's report: the same words, then the log's bytes */
@@ -56,24 +54,16 @@ extern "C" {
 #define YUDRONKHA_NO_VALUE 65535         /* a record's value number where it has none */
 #define YUDRONKHA_NO_NODE 65535          /* a record's second node where it has none */
 
-/* The same of the calls with the profile, where they differ. */
-#define YUDRONKHA_PROFILE_RECORDS_MOST 11264    /* no valid tree has more records: 112,640 words or 450,560 bytes */
-#define YUDRONKHA_PROFILE_CODES 22              /* codes are 1 to 22 */
-#define YUDRONKHA_PROFILE_REPORT_WORDS 23       /* a whole report */
-#define YUDRONKHA_PROFILE_SARIF_REPORT_WORDS 24 /* a log's report */
-#define YUDRONKHA_PROFILE_REPORT_BYTES 23       /* the word of a log's report that has the log's bytes */
-
-/* A log of so many records has at most so many bytes, without the profile and with it. */
+/* A log of so many records has at most so many bytes. */
 #define YUDRONKHA_LOG_BYTES(records) (1617 + 2222 * (size_t)(records))
-#define YUDRONKHA_PROFILE_LOG_BYTES(records) (2026 + 2222 * (size_t)(records))
 
 /* Stack to keep free for one call, in bytes: measured on trees of depth 48, not proved (docs/SPEED.md). yudronkha_version,
  * yudronkha_severity and yudronkha_short_name take under a kilobyte. */
-#define YUDRONKHA_STACK_BYTES 1048576       /* calls named lint; the most seen, of yudronkha_lint, is 586,840 */
-#define YUDRONKHA_SARIF_STACK_BYTES 1572864 /* calls named sarif, which make their list there, too; the most seen, of yudronkha_sarif, is 1,041,800 */
+#define YUDRONKHA_STACK_BYTES 1048576       /* yudronkha_lint, either keys; the most seen is 586,568 */
+#define YUDRONKHA_SARIF_STACK_BYTES 1572864 /* yudronkha_sarif, which makes its list there, too; the most seen is 1,000,520 */
 
-/* What the calls that take a tree return: 0, or the number of the one refusal. Where several hold, the lowest number is given, at its
- * lowest place. The place stands in report[0]. */
+/* What yudronkha_lint and yudronkha_sarif return: 0, or the number of the one refusal. Where several hold, the lowest number is
+ * given, at its lowest place. The place stands in report[0]. */
 enum yudronkha_number {
     YUDRONKHA_LISTED = 0,               /* the list is written; report[0] is how many records it has, which may be 0 */
     YUDRONKHA_REFUSED_MARK = 1,         /* under 11 bytes, or the mark is not SLT; place 0 */
@@ -88,7 +78,7 @@ enum yudronkha_number {
     YUDRONKHA_REFUSED_GLOBAL = 9,       /* a global is not a name, or not above the one before; place: its position */
     YUDRONKHA_REFUSED_WORK_ROOM = 10,   /* work_len under YUDRONKHA_WORK_WORDS; place 0 */
     YUDRONKHA_REFUSED_ANSWER_ROOM = 11, /* answer_len under YUDRONKHA_RECORD_WORDS a record; place: the records needed */
-    YUDRONKHA_REFUSED_OUTPUT_ROOM = 12  /* output_len under the log's bytes; place: the bytes needed. Calls named sarif alone */
+    YUDRONKHA_REFUSED_OUTPUT_ROOM = 12  /* output_len under the log's bytes; place: the bytes needed. yudronkha_sarif alone */
 };
 
 /* The code of a record, its word 0; yudronkha_severity and yudronkha_short_name say more of one.
@@ -116,20 +106,14 @@ enum yudronkha_code {
     YUDRONKHA_DUPLICATE_TOP_LEVEL_ASSIGN = 15, /* at the later name; value: the name; second: the name as first defined. x = x, where
                                                   a load defined x first, is free: once in version 1, each time in version 2 */
     /* dubious */
-    YUDRONKHA_DUPLICATE_KEY = 16,           /* at the previous equal key; value and second: the later key; no third, but a reason */
-    YUDRONKHA_IDENTIFIER_AS_STATEMENT = 17, /* at the identifier; value: the name */
-    /* the profile; of calls named profile alone */
-    YUDRONKHA_TOP_LEVEL_FLOW = 18,     /* at the if or for, which stands outside every def */
-    YUDRONKHA_RETURN_OUTSIDE_DEF = 19, /* at the return */
-    YUDRONKHA_JUMP_OUTSIDE_LOOP = 20,  /* at the break or continue; a def inside a loop starts afresh */
-    YUDRONKHA_NESTED_LOAD = 21,        /* at the load, which stands inside an if, a for or a def */
-    YUDRONKHA_DUPLICATE_PARAMETER = 22 /* at the later parameter; value: its name; second: the first parameter of that name */
+    YUDRONKHA_DUPLICATE_KEY = 16,          /* at the previous equal key; value and second: the later key; no third, but a reason */
+    YUDRONKHA_IDENTIFIER_AS_STATEMENT = 17 /* at the identifier; value: the name */
 };
 
 /* The words of a record, by position. A second or third span that a record doesn't have is 0 0, but for code 16: its records have
  * a reason and 0 in place of a third span, which are no place of the script. The last two words are numbers of nodes in the tree
  * file, from 0 on, so that an editor goes to a node and needs no search for its span, which several nodes may have. Every record has
- * a node; codes 7, 8, 15, 16 and 22 have a second one. */
+ * a node; codes 7, 8, 15 and 16 have a second one. */
 enum yudronkha_word {
     YUDRONKHA_CODE = 0,
     YUDRONKHA_BEGIN = 1,
@@ -200,7 +184,7 @@ size_t yudronkha_lint_strict(const uint8_t *tree, size_t tree_len, uint16_t *wor
  * tree, work, answer  as above.
  * output, output_len  room for the log. After 0 it begins with report[YUDRONKHA_REPORT_BYTES] bytes of UTF-8, the last a line's end
  *                     and no zero byte after it; the bytes past them are as they were. A refusal writes none. The list is made on
- *                     the call's own stack (451 KB) and copied where all rooms suffice: 12 leaves the answer room as it was, too.
+ *                     the call's own stack (410 KB) and copied where all rooms suffice: 12 leaves the answer room as it was, too.
  * report, report_len  as above, and in word YUDRONKHA_REPORT_BYTES the bytes of the log; after a refusal 0. A whole report has
  *                     YUDRONKHA_SARIF_REPORT_WORDS words; with fewer the words that fit are written.
  *
@@ -214,26 +198,6 @@ size_t yudronkha_sarif(const uint8_t *tree, size_t tree_len, uint16_t *work, siz
 
 size_t yudronkha_sarif_strict(const uint8_t *tree, size_t tree_len, uint16_t *work, size_t work_len, uint32_t *answer,
                               size_t answer_len, uint8_t *output, size_t output_len, size_t *report, size_t report_len);
-
-/* With the stricter profile, five of the language document's own rules: each call is as the one of its name without profile, but for this.
- *
- * answer              after all other records those of codes 18 to 22, in the order of their nodes. 11 counts the whole list, and with
- *                     room for YUDRONKHA_PROFILE_RECORDS_MOST records is never answered.
- * output              the log of the whole list; for n records YUDRONKHA_PROFILE_LOG_BYTES(n) bytes are enough.
- * report              report[c] for a code c of 1 to YUDRONKHA_PROFILE_CODES, and for a log its bytes in word
- *                     YUDRONKHA_PROFILE_REPORT_BYTES: a whole report has YUDRONKHA_PROFILE_REPORT_WORDS words, a log's
- *                     YUDRONKHA_PROFILE_SARIF_REPORT_WORDS. */
-size_t yudronkha_lint_profile(const uint8_t *tree, size_t tree_len, uint16_t *work, size_t work_len, uint32_t *answer,
-                              size_t answer_len, size_t *report, size_t report_len);
-
-size_t yudronkha_lint_profile_strict(const uint8_t *tree, size_t tree_len, uint16_t *work, size_t work_len, uint32_t *answer,
-                                     size_t answer_len, size_t *report, size_t report_len);
-
-size_t yudronkha_sarif_profile(const uint8_t *tree, size_t tree_len, uint16_t *work, size_t work_len, uint32_t *answer,
-                               size_t answer_len, uint8_t *output, size_t output_len, size_t *report, size_t report_len);
-
-size_t yudronkha_sarif_profile_strict(const uint8_t *tree, size_t tree_len, uint16_t *work, size_t work_len, uint32_t *answer,
-                                      size_t answer_len, uint8_t *output, size_t output_len, size_t *report, size_t report_len);
 
 #ifdef __cplusplus
 }

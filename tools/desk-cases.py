@@ -1,15 +1,13 @@
 #!/usr/bin/env python3
-"""usage: tools/desk-cases.py [--check | --to FOLDER]
+"""usage: tools/desk-cases.py [--check]
 
 Writes crates/desk/stdin and crates/desk/stdout, on which the gate runs the program desk: requests, and what must be answered.
-With --check it writes nothing, and says whether they are as it would write them; with --to it writes them into FOLDER instead.
-Exit status: 0, 1 they aren't, 2 wrong use.
+With --check it writes nothing, and says whether they are as it would write them. Exit status: 0, 1 they aren't, 2 wrong use.
 
 No answer comes from the program itself: lists are the Rust's (compare/recorded, examples/listings.txt), with nodes, the reasons
-of equal keys and code 15 of version 2 by document 01's rules as compare/ has them, or, with strict keys or the profile, those of
-the rules; logs are written by examples/log.py from these lists; the rest is counted here. Whether an integer and a float are one
-number (02, §2) is said by Python, which compares them by exact value. Where the profile's conditions hold (02, §10) is written
-down here, tree by tree.
+of equal keys and code 15 of version 2 by document 01's rules as compare/ has them, or, with strict keys, those of the rules;
+logs are written by examples/log.py from these lists; the rest is counted here. Whether an integer and a float are one number
+(02, §2) is said by Python, which compares them by exact value.
 """
 import math
 import pathlib
@@ -21,15 +19,13 @@ sys.dont_write_bytecode = True
 sys.path.insert(0, str(ROOT / "examples"))
 import asking
 import log
-from asking import ACCEPTED, LOG, LONGEST, PROFILE, STRICT, TALLY, TWO, request
-from export import NONE, Node, packed
+from asking import ACCEPTED, LOG, LONGEST, STRICT, TALLY, TWO, request
+from export import Node, packed
 
 DESK = ROOT / "crates" / "desk"
 SCRIPTS = ROOT / "examples" / "scripts"
 RECORDED = ROOT / "compare" / "recorded"
-WORK, RECORD = 32768, 10
-# How many counts the line `tally` has, without the profile and with it.
-CODES, ALL_CODES = 17, 22
+WORK, RECORD, CODES = 32768, 10, 17
 # More than the program has of any room, which is taken as all that it has.
 AMPLE = 2**32 - 1
 # Recorded trees whose list is shorter in version 2, and versions that there aren't.
@@ -75,9 +71,9 @@ def total(listing):
     return len(log.records(listing.decode()))
 
 
-def tally(listing, most=CODES):
+def tally(listing):
     codes = [numbers[0] for numbers in log.records(listing.decode())]
-    return " ".join(["tally", *(str(codes.count(code)) for code in range(1, most + 1))]).encode() + b"\n"
+    return " ".join(["tally", *(str(codes.count(code)) for code in range(1, CODES + 1))]).encode() + b"\n"
 
 
 # Each case is a request and its answer.
@@ -99,11 +95,8 @@ def pairs():
 
 
 def recorded(_):
-    """A refusal is the same with the profile."""
     for tree, listing in pairs():
         yield request(0, tree), listing
-        if listing.startswith(b"refused"):
-            yield request(PROFILE, tree), listing
 
 
 def logs(listings):
@@ -200,181 +193,24 @@ def dialect(_):
             yield request(keys, first, rooms=(WORK, words, 0, 0)), refused(11, total(more))
     for version in VERSIONS:
         other = tree[:3] + struct.pack("<H", version) + tree[5:]
-        yield from ((request(choices, other), refused(2, 0)) for choices in (STRICT, TALLY, LOG, PROFILE, PROFILE | LOG))
-
-
-# The profile (02, §10).
-
-
-def profile(listings):
-    """The sample trees with the profile, ordinary keys and strict; logs and both lines of counts where it finds something, where
-    there is nothing to find, and of log.py's tree."""
-    for (name, strict), listing in asking.listings(profile=True).items():
-        tree, keys, without = tree_of(name), strict * STRICT, listings[name, strict]
-        yield request(PROFILE | keys, tree), listing
-        if listing != without or name in ("known-empty.slt", "log.py"):
-            yield request(PROFILE | LOG | keys, tree), logged(tree, listing)
-            yield request(PROFILE | TALLY | keys, tree), listing + tally(listing, ALL_CODES)
-            yield request(TALLY | keys, tree), without + tally(without)
-
-
-def profile_rooms(listings):
-    """Each room one short and exactly enough, and answer room for the list without the profile alone: 11 counts the whole list."""
-    tree = tree_of("partners.slt")
-    listing, without = asking.listings(profile=True)["partners.slt", False], listings["partners.slt", False]
-    text, count, words = logged(tree, listing), total(listing), RECORD * total(listing)
-    fewer = RECORD * total(without)
-    for choices, sizes, answer in (
-        (0, (WORK - 1, AMPLE, AMPLE, AMPLE), refused(10, 0)),
-        (0, (WORK, 0, 0, 0), refused(11, count)),
-        (0, (WORK, fewer, AMPLE, AMPLE), refused(11, count)),
-        (0, (WORK, words - 1, AMPLE, AMPLE), refused(11, count)),
-        (0, (WORK, words, 0, 0), listing),
-        (0, (AMPLE, AMPLE, AMPLE, AMPLE), listing),
-        (LOG, (WORK - 1, 0, 0, 0), refused(10, 0)),
-        (LOG, (WORK, words - 1, len(text) - 1, 0), refused(11, count)),
-        (LOG, (WORK, words, len(text) - 1, AMPLE), refused(12, len(text))),
-        (LOG, (WORK, words, len(text), 0), text),
-        (LOG, (AMPLE, AMPLE, AMPLE, AMPLE), text),
-        (TALLY, (WORK, words, 0, 0), listing + tally(listing, ALL_CODES)),
-        (TALLY, (WORK, words - 1, 0, 0), refused(11, count)),
-    ):
-        # No key of this tree is a number, so that both modes have one list.
-        yield from ((request(PROFILE | keys | choices, tree, rooms=sizes), answer) for keys in (0, STRICT))
-    yield request(0, tree, rooms=(WORK, fewer, 0, 0)), without
-    yield request(0, tree, rooms=(WORK, fewer - 1, 0, 0)), refused(11, total(without))
-
-
-# Small trees: statements with an ellipsis for each expression, and lambdas and defs with parameters of these names.
-
-
-def of(kind, *kids, role=0, name=None):
-    return Node(kind, (0, 0), kids, name and (0, name)).in_role(role)
-
-
-def some(role):
-    return of(22, role=role)
-
-
-def when(body, other=None):
-    """An if, or an if-else; of the latter the side of role 2 stands first, where a statement comes first in the file."""
-    return of(10, some(4), other.in_role(2), body.in_role(1)) if other else of(9, some(4), body.in_role(1))
-
-
-def each(body):
-    return of(11, of(41, role=5), some(4), body.in_role(1))
-
-
-def block(*kids):
-    return of(8, *kids)
-
-
-def parameters(names):
-    """None is a parameter without a name."""
-    return [of(43, name=name) if name else of(44) for name in names]
-
-
-def define(body, *names, called=b"f"):
-    return of(12, of(40, role=6, name=called), *parameters(names), body.in_role(1))
-
-
-def inner(body, *names):
-    """A def in a def, under a name that may stay unused there."""
-    return define(body, *names, called=b"_f")
-
-
-def function(*names, default=()):
-    """A call that is handed a lambda, whose first parameter has these below it."""
-    given = parameters(names)
-    given[0] = of(43, *default, name=names[0])
-    return of(5, of(23, some(7), of(24, *given, some(1))).in_role(4))
-
-
-def condition_trees():
-    """Trees in which the passes of document 01 find nothing, each with the profile's records: code, node and, of 22, its second."""
-    odd = b'_"\\/\x00\x1f\x7f\xc3\xa9\xff{0}'
-    lambdas = of(24, *parameters([b"_", b"_"]), some(1))
-    yield of(3), []
-    yield of(1), [(20, 0)]
-    yield of(2), [(20, 0)]
-    yield of(4), [(19, 0)]
-    yield of(4, some(4)), [(19, 0)]
-    yield of(13), []
-    yield block(block(of(13)), of(13)), []
-    yield when(of(3)), [(18, 0)]
-    yield when(of(13)), [(18, 0), (21, 2)]
-    yield when(block(of(13)), of(1)), [(18, 0), (20, 2), (21, 4)]
-    yield when(of(3), when(of(3))), [(18, 0), (18, 2)]
-    yield each(of(1)), [(18, 0)]
-    yield each(of(13)), [(18, 0), (21, 3)]
-    yield each(block(when(of(1)), of(3))), [(18, 0), (18, 4)]
-    yield each(define(of(1))), [(18, 0), (20, 5)]
-    yield each(define(each(of(1)))), [(18, 0)]
-    yield each(of(4)), [(18, 0), (19, 3)]
-    yield define(when(of(13))), [(21, 4)]
-    yield define(of(1)), [(20, 2)]
-    yield define(each(of(1))), []
-    yield define(each(inner(when(of(2))))), [(20, 9)]
-    yield define(inner(of(4, some(4)))), []
-    yield define(of(3), b"_a", b"_b", b"_"), []
-    yield define(of(3), b"_", None, b"_", None), [(22, 4, 2)]
-    yield define(inner(of(3), b"_"), b"_"), []
-    yield define(function(b"_"), b"_"), []
-    yield function(b"_", b"_", b"_"), [(22, 5, 4), (22, 6, 4)]
-    yield function(b"_a", b"_", b"_a", b"_"), [(22, 6, 4), (22, 7, 5)]
-    yield function(b"_", b"_", default=[of(24, *parameters([b"_"]), some(1))]), [(22, 8, 4)]
-    yield function(b"_", b"_", default=[lambdas]), [(22, 7, 6), (22, 9, 4)]
-    yield function(odd, b"_", odd), [(22, 6, 4)]
-
-
-def condition_listing(root, found):
-    """The list of such a tree, in which the span of each node is its number and the next."""
-    nodes = [node for node, _ in root.walk()]
-    for at, node in enumerate(nodes):
-        node.span = at, at + 1
-    names = sorted({node.value for node in nodes if node.value}, key=lambda value: (len(value[1]), value[1]))
-    lines = []
-    for code, at, *second in found:
-        value, (first,) = (names.index(nodes[at].value), second) if second else (NONE, [NONE])
-        span = (first, first + 1) if second else (0, 0)
-        lines.append(" ".join(map(str, (code, at, at + 1, value, *span, 0, 0, at, first))))
-    return "".join(line + "\n" for line in [*lines, f"total {len(lines)}"]).encode()
-
-
-def conditions(_):
-    """Each of the five conditions, where it holds and where it doesn't; without the profile there is nothing."""
-    for root, found in condition_trees():
-        listing = condition_listing(root, found)
-        tree = packed(root, None)
-        yield request(0, tree), b"total 0\n"
-        yield request(PROFILE | STRICT, tree), listing
-        yield request(PROFILE | TALLY, tree), listing + tally(listing, ALL_CODES)
-        yield request(PROFILE | LOG, tree), logged(tree, listing)
-
-
-# Choices and lengths.
+        yield from ((request(choices, other), refused(2, 0)) for choices in (STRICT, TALLY, LOG))
 
 
 def strange(listings):
     """Choices that there aren't, with all that such a request has, and after each a good request: nothing is lost."""
     tree, listing = tree_of("no-effect.slt"), listings["no-effect.slt", False]
-    second, other = bytes(range(256)), 1 << 4
-    asked = [request(1 << bit, tree, *([second] if 1 << bit in (ACCEPTED, TWO) else [])) for bit in (*range(3, 14), 16, 31)]
+    second = bytes(range(256))
+    asked = [request(1 << bit, tree, *([second] if 1 << bit in (ACCEPTED, TWO) else [])) for bit in (*range(2, 14), 16, 31)]
     asked += [
         request(LOG | TALLY, tree),
         request(ACCEPTED, tree, b""),
         request(ACCEPTED | TWO, tree, second),
-        request(other, tree, rooms=(WORK, 0, 0, 0)),
+        request(1 << 2, tree, rooms=(WORK, 0, 0, 0)),
         request(TWO, b"", second, rooms=(0, 0, 0, 0)),
-        request(PROFILE | LOG | TALLY, tree),
-        request(PROFILE | ACCEPTED, tree, second),
-        request(PROFILE | other, tree, rooms=(WORK, 0, 0, 0)),
     ]
     for wrong in asked:
         yield wrong, b"no such request\n"
         yield request(0, tree), listing
-    text = logged(tree, listing)
-    yield from ((request(PROFILE | choices, tree), answer) for choices, answer in zip(range(4), (listing, listing, text, text)))
 
 
 def longest():
@@ -391,11 +227,10 @@ def lengths(listings):
     """The longest tree, one byte more, and none, with good requests between them."""
     tree, listing = longest()
     good = request(0, tree_of("rate.slt")), listings["rate.slt", False]
-    for choices in (0, PROFILE):
-        yield request(choices, tree), listing
-        yield request(choices, tree + b"\0"), b"too long\n"
-        yield good
-    yield request(1 << 4, tree + b"\0"), b"no such request\n"
+    yield request(0, tree), listing
+    yield request(0, tree + b"\0"), b"too long\n"
+    yield good
+    yield request(1 << 2, tree + b"\0"), b"no such request\n"
     yield request(0, b""), refused(1, 0)
     yield good
 
@@ -405,43 +240,37 @@ def cut_short():
     return request(0, bytes(47))[:-1], b"cut short\n"
 
 
-PARTS = samples, logs, rooms, tallies, floats, dialect, profile, profile_rooms, conditions, strange, lengths, recorded
-
-
 def cases():
     listings = asking.listings()
-    for part in PARTS:
+    for part in (samples, logs, rooms, tallies, floats, dialect, strange, lengths, recorded):
         yield from part(listings)
     yield cut_short()
 
 
-def made(folder):
+def made():
     """The two files and what goes into them."""
     every = list(cases())
     stdin, stdout = b"".join(asked for asked, _ in every), b"".join(answer + b"--\n" for _, answer in every)
-    return len(every), {folder / "stdin": stdin, folder / "stdout": stdout}
+    return len(every), {DESK / "stdin": stdin, DESK / "stdout": stdout}
 
 
 def main(words):
     if words in (["-h"], ["--help"]):
         print(__doc__.strip())
         return 0
-    elsewhere = len(words) == 2 and words[0] == "--to"
-    if words not in ([], ["--check"]) and not elsewhere:
+    if words not in ([], ["--check"]):
         print("tools/desk-cases.py: --help has the use", file=sys.stderr)
         return 2
-    check = words == ["--check"]
-    count, files = made(pathlib.Path(words[1]).absolute() if elsewhere else DESK)
+    count, files = made()
     differ = [path for path, data in files.items() if not path.exists() or path.read_bytes() != data]
     for path in differ:
-        if not check:
-            path.parent.mkdir(parents=True, exist_ok=True)
+        if not words:
+            path.parent.mkdir(exist_ok=True)
             path.write_bytes(files[path])
-        shown = path if elsewhere else path.relative_to(ROOT)
-        print(f"tools/desk-cases.py: {shown} {'is not as it should be' if check else 'written'}")
+        print(f"tools/desk-cases.py: {path.relative_to(ROOT)} {'is not as it should be' if words else 'written'}")
     sizes = " and ".join(f"{len(data):,}" for data in files.values())
     print(f"tools/desk-cases.py: {count} requests, {sizes} bytes")
-    return 1 if check and differ else 0
+    return 1 if words and differ else 0
 
 
 if __name__ == "__main__":

@@ -16,7 +16,7 @@ from ends import Stopped, named
 
 # No valid tree has more bytes.
 MOST = 149515
-STRICT, LOG, PROFILE = 1 << 0, 1 << 1, 1 << 2
+STRICT, LOG = 1 << 0, 1 << 1
 # So many trees are read before their turn.
 AHEAD = 32
 

@@ -14,11 +14,6 @@ class Entry:
     def says(self, **words):
         return self.texts["says"].format(**words)
 
-    def condition(self):
-        """What has to be chosen for this code to be given, if anything."""
-        option = self.texts.get("option")
-        return f", only with the profile: tools/lint {option} FILE" if option else ""
-
     def has_reason(self):
         """Whether records of this code have a reason in place of a third span."""
         return "{reason}" in self.texts["says"]

@@ -14,9 +14,9 @@
 static uint8_t tree[200000];
 static size_t tree_len;
 static uint16_t work[YUDRONKHA_WORK_WORDS];
-static uint32_t answer[YUDRONKHA_RECORD_WORDS * YUDRONKHA_PROFILE_RECORDS_MOST];
-static uint8_t output[YUDRONKHA_PROFILE_LOG_BYTES(YUDRONKHA_PROFILE_RECORDS_MOST)];
-static size_t report[YUDRONKHA_PROFILE_SARIF_REPORT_WORDS];
+static uint32_t answer[YUDRONKHA_RECORD_WORDS * YUDRONKHA_RECORDS_MOST];
+static uint8_t output[YUDRONKHA_LOG_BYTES(YUDRONKHA_RECORDS_MOST)];
+static size_t report[YUDRONKHA_SARIF_REPORT_WORDS];
 static size_t number;
 
 static void *idle(void *x) { return x; }
@@ -46,24 +46,11 @@ static void *sarif_strict(void *x)
     return x;
 }
 
-static void *lint_profile(void *x)
-{
-    number = yudronkha_lint_profile(tree, tree_len, work, COUNT(work), answer, COUNT(answer), report, COUNT(report));
-    return x;
-}
-
-static void *sarif_profile(void *x)
-{
-    number = yudronkha_sarif_profile(tree, tree_len, work, COUNT(work), answer, COUNT(answer), output, COUNT(output), report,
-                                     COUNT(report));
-    return x;
-}
-
 /* What takes no tree: every code's severity and name, and the version. */
 static void *codes(void *x)
 {
     number = yudronkha_version() != YUDRONKHA_VERSION;
-    for (size_t code = 0; code <= YUDRONKHA_PROFILE_CODES + 1; code++)
+    for (size_t code = 0; code <= YUDRONKHA_CODES + 1; code++)
         number += yudronkha_severity(code) > 1 || yudronkha_short_name(code, output, COUNT(output)) > YUDRONKHA_NAME_BYTES;
     return x;
 }
@@ -78,8 +65,6 @@ static struct call {
     {"yudronkha_lint_strict", lint_strict, 0, ""},
     {"yudronkha_sarif", sarif, 0, ""},
     {"yudronkha_sarif_strict", sarif_strict, 0, ""},
-    {"yudronkha_lint_profile", lint_profile, 0, ""},
-    {"yudronkha_sarif_profile", sarif_profile, 0, ""},
     {"severity, short_name, version", codes, 0, ""},
 };
 

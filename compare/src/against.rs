@@ -3,31 +3,26 @@
 use crate::batch;
 use crate::listing::{Extent, Source};
 use crate::reduce::reduced;
-use crate::rules::{Choices, Mode};
+use crate::rules::Mode;
 use crate::show::show;
 use std::io::{Read, Write};
 use std::process::{Command, Stdio};
 
-/// The choices of a request: strict keys, and the profile.
-const STRICT: u32 = 1 << 0;
-const PROFILE: u32 = 1 << 2;
+/// The choice of strict keys in a request.
+const STRICT: u32 = 1;
 
 /// What lists are held against.
 #[derive(Clone, Copy)]
 pub struct Side {
     source: Source,
     extent: Extent,
-    /// Whether the lists have the profile.
-    profile: bool,
 }
 
 impl Side {
-    pub fn rust(profile: bool) -> Side {
-        Side { source: Source::Rust, extent: Extent::Rust, profile }
-    }
+    pub const RUST: Side = Side { source: Source::Rust, extent: Extent::Rust };
 
-    pub fn rules(choices: Choices) -> Side {
-        Side { source: Source::Rules(choices), extent: Extent::Whole, profile: choices.profile }
+    pub fn rules(mode: Mode) -> Side {
+        Side { source: Source::Rules(mode), extent: Extent::Whole }
     }
 
     /// The same beside lists of document 01 alone.
@@ -49,7 +44,7 @@ impl Side {
 
     /// Whether two lists of a file are the same in what it says.
     pub fn agrees(self, file: &[u8], own: &str, other: &str) -> bool {
-        let said = |list| self.extent.of(&self.source.part_of(file, self.profile, list));
+        let said = |list| self.extent.of(&self.source.part_of(file, list));
         said(own) == said(other)
     }
 }
@@ -69,8 +64,8 @@ pub enum Takes {
 pub struct Program {
     pub words: Vec<String>,
     pub takes: Takes,
-    /// What its lists have; only a request asks for it, other programs have it of their own.
-    pub choices: Choices,
+    /// The keys of its lists; only a request asks for them, other programs have one sort.
+    pub keys: Mode,
     /// Files for one start of a program that takes many.
     pub chunk: usize,
 }
@@ -114,8 +109,9 @@ impl Program {
     }
 
     fn joined(&self, files: &[Vec<u8>]) -> Vec<u8> {
-        match self.takes {
-            Takes::Requests => batch::requests(files, asked(self.choices)),
+        match (self.takes, self.keys) {
+            (Takes::Requests, Mode::Ordinary) => batch::requests(files, 0),
+            (Takes::Requests, Mode::Strict) => batch::requests(files, STRICT),
             _ => batch::join(files),
         }
     }
@@ -127,15 +123,6 @@ impl Program {
             Takes::Requests => source.desk(file),
         }
     }
-}
-
-/// Choices as a request has them.
-fn asked(choices: Choices) -> u32 {
-    let keys = match choices.keys {
-        Mode::Ordinary => 0,
-        Mode::Strict => STRICT,
-    };
-    keys | if choices.profile { PROFILE } else { 0 }
 }
 
 /// What differs from a side, counted, with the smallest.

@@ -4,44 +4,40 @@ use crate::batch::{self, input, print, print_all};
 use crate::coverage::Coverage;
 use crate::file::version;
 use crate::judge::judge;
-use crate::listing::Source;
+use crate::listing::{Source, PASSES};
 use crate::make::Plan;
 use crate::noticed::noticed;
 use crate::recorded::{self, Limits};
-use crate::rules::{self, Choices, Mode};
+use crate::rules::{self, Mode};
 use crate::show::show;
 use std::path::Path;
 
 const USAGE: &str = "usage:
   compare list [--pass P] [--batch]   the Rust's listing of the file or files on standard input
-  compare rules [--pass P] [--batch] [--strict] [--profile]
-                                      the same by document 01's rules, without the Rust; --profile: with the
-                                      stricter profile (02, §10), which the Rust doesn't have
+  compare rules [--pass P] [--batch] [--strict]
+                                      the same by document 01's rules, without the Rust
   compare judge [--batch]             `valid` or `refused N P`
   compare show                        a file's nodes by name
   compare make [--seed S] [--from I] [--count N] [--any-order] [--damage] [--long] [--shared] [--floats]
-                                      [--dialect] [--profile]
+                                      [--dialect]
                                       generated files, each after its length, on standard output
   compare sized SORT                  trees of one sort at growing numbers of nodes, each after its length;
                                       SORT: straight, loops, dicts, names
   compare coverage FILES..            what files show
-  compare lists [--rules | --strict] [--profile] [--eight] [--before R] FILES LISTS
+  compare lists [--rules | --strict] [--eight] [--before R] FILES LISTS
                                       the Rust beside lists written before; --rules: and document 01's rules,
                                       strict keys: these alone. Of a record's ten numbers the Rust says neither
                                       the reason of 16 nor the node of 1 to 6, and nothing of 15 in version 2,
-                                      the rules say all; --profile: lists with the profile, of whose records the
-                                      Rust says nothing; --eight: of lists of 01 alone its eight numbers a record,
+                                      the rules say all; --eight: of lists of 01 alone its eight numbers a record,
                                       of 16 six; --before: lists older than a request of 02, so files of which it
                                       says something new are left out; R: dialect (§9), or floats (§2, then §9)
-  compare noticed [--profile] FILES LISTS
-                                      whether the Rust and the rules would notice a wrong number in right lists
-  compare against [--each | --desk] [--rules | --strict] [--profile] [--chunk N] [--as-found]
-                                      FILES.. -- PROGRAM ..
+  compare noticed FILES LISTS         whether the Rust and the rules would notice a wrong number in right lists
+  compare against [--each | --desk] [--rules | --strict] [--chunk N] [--as-found] FILES.. -- PROGRAM ..
                                       the same beside a program, which takes files as --batch has them;
-                                      --each: one file a start, never with the profile; --desk: requests
+                                      --each: one file a start; --desk: requests
   compare record [--seed S] [--count N] [--bytes N] FOLDER
                                       chooses and writes the recorded list
-P: names, flow, incompatible, dubious, and with --profile profile. FILES hold many files, each after its length.";
+P: names, flow, incompatible, dubious. FILES hold many files, each after its length.";
 
 /// Words of a command line: flags with and without a value, and the rest.
 struct Words {
@@ -87,17 +83,20 @@ impl Words {
         self.flags.iter().rev().find(|f| f.0 == flag).and_then(|f| f.1.as_deref())
     }
 
-    fn choices(&self) -> Choices {
-        let keys = if self.has("--strict") { Mode::Strict } else { Mode::Ordinary };
-        Choices { keys, profile: self.has("--profile") }
+    fn mode(&self) -> Mode {
+        if self.has("--strict") {
+            Mode::Strict
+        } else {
+            Mode::Ordinary
+        }
     }
 
     /// What lists are held against; the Rust has no strict keys.
     fn sides(&self) -> Result<Vec<Side>, String> {
-        let (rust, rules) = (Side::rust(self.choices().profile), Side::rules(self.choices()));
+        let rules = Side::rules(self.mode());
         let sides = match (self.has("--rules"), self.has("--strict")) {
-            (false, false) => vec![rust],
-            (true, false) => vec![rust, rules],
+            (false, false) => vec![Side::RUST],
+            (true, false) => vec![Side::RUST, rules],
             (false, true) => vec![rules],
             (true, true) => return Err(USAGE.to_owned()),
         };
@@ -120,9 +119,9 @@ pub fn run(words: &[String]) -> Result<bool, String> {
     match command.as_str() {
         "list" => list(Words::new(words, &["--pass"], &["--batch"])?, Source::Rust),
         "rules" => {
-            let words = Words::new(words, &["--pass"], &["--batch", "--strict", "--profile"])?;
-            let choices = words.choices();
-            list(words, Source::Rules(choices))
+            let words = Words::new(words, &["--pass"], &["--batch", "--strict"])?;
+            let mode = words.mode();
+            list(words, Source::Rules(mode))
         }
         "judge" => judged(Words::new(words, &[], &["--batch"])?),
         "show" => {
@@ -132,14 +131,11 @@ pub fn run(words: &[String]) -> Result<bool, String> {
         "make" => make(Words::new(words, &["--seed", "--from", "--count"], &Plan::FLAGS)?),
         "sized" => sized(Words::new(words, &[], &[])?),
         "coverage" => coverage(Words::new(words, &[], &[])?),
-        "lists" => {
-            let plain = ["--rules", "--strict", "--profile", "--eight"];
-            lists(Words::new(words, &["--before"], &plain)?)
-        }
-        "noticed" => wrong_numbers(Words::new(words, &[], &["--profile"])?),
+        "lists" => lists(Words::new(words, &["--before"], &["--rules", "--strict", "--eight"])?),
+        "noticed" => wrong_numbers(Words::new(words, &[], &[])?),
         "record" => record(Words::new(words, &["--seed", "--count", "--bytes"], &[])?),
         "against" => {
-            let plain = ["--each", "--desk", "--rules", "--strict", "--profile", "--as-found"];
+            let plain = ["--each", "--desk", "--rules", "--strict", "--as-found"];
             beside(Words::new(words, &["--chunk"], &plain)?)
         }
         _ => Err(USAGE.to_owned()),
@@ -165,7 +161,7 @@ fn answers(
 fn list(words: Words, source: Source) -> Result<bool, String> {
     let pass = match words.text("--pass") {
         None => None,
-        Some(name) => Some(source.passes().iter().position(|p| *p == name).ok_or(USAGE)?),
+        Some(name) => Some(PASSES.iter().position(|p| *p == name).ok_or(USAGE)?),
     };
     answers(words.has("--batch"), |f| source.listing(f, pass), |f| source.answer(f, pass))
 }
@@ -253,7 +249,7 @@ fn lists(words: Words) -> Result<bool, String> {
 
 fn wrong_numbers(words: Words) -> Result<bool, String> {
     let (files, lists) = listed(&words)?;
-    let (right, report) = noticed(words.choices().profile, &files, &lists);
+    let (right, report) = noticed(&files, &lists);
     print(report.as_bytes());
     Ok(right)
 }
@@ -263,15 +259,13 @@ fn beside(words: Words) -> Result<bool, String> {
         return Err(USAGE.to_owned());
     }
     let chunk = words.number("--chunk", 1000)?.max(1) as usize;
-    let choices = words.choices();
     let takes = match (words.has("--each"), words.has("--desk")) {
         (false, false) => Takes::Files,
-        // Document 01's listing program has no profile.
-        (true, false) if !choices.profile => Takes::File,
+        (true, false) => Takes::File,
         (false, true) => Takes::Requests,
-        _ => return Err(USAGE.to_owned()),
+        (true, true) => return Err(USAGE.to_owned()),
     };
-    let program = Program { words: words.after.clone(), takes, choices, chunk };
+    let program = Program { words: words.after.clone(), takes, keys: words.mode(), chunk };
     Ok(reported(against(&program, &words.sides()?, &words.files()?, !words.has("--as-found"))?))
 }
 

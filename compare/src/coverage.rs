@@ -1,11 +1,9 @@
 //! What a heap of files shows: codes, kinds, roles, places of kinds, refusals.
-use crate::file::{self, File};
 use crate::judge::judge;
 use crate::kinds::{self, KINDS};
-use crate::listing::{records, PROFILE};
-use crate::rules::{self, Choices, Met};
+use crate::listing::records;
+use crate::rules::{self, Met, Mode};
 use crate::tree::{Node, Tree};
-use originals::Record;
 use std::collections::{BTreeMap, BTreeSet};
 use std::fmt::Write;
 
@@ -34,23 +32,6 @@ pub fn edges_of(node: &Node, out: &mut BTreeSet<Edge>) {
 /// The most for statements that stand in one another.
 fn loops(node: &Node) -> usize {
     node.children.iter().map(loops).max().unwrap_or(0) + usize::from(node.kind == 11)
-}
-
-/// The profile's code for nodes of a kind, be they warned or not.
-fn profile_code(kind: u8) -> Option<u32> {
-    match kind {
-        9..=11 => Some(18),
-        4 => Some(19),
-        1 | 2 => Some(20),
-        13 => Some(21),
-        43 => Some(22),
-        _ => None,
-    }
-}
-
-/// Whether a for statement stands above a node.
-fn below_a_for(nodes: &[file::Node], i: usize) -> bool {
-    nodes[..i].iter().enumerate().any(|(at, x)| x.kind == 11 && at + usize::from(x.size) > i)
 }
 
 /// Times that x = x is free: once as in version 1, then more.
@@ -85,12 +66,6 @@ pub struct Coverage {
     shared: usize,
     /// By code: trees with a record of it that has another node than the file's first of its span and name.
     later: BTreeMap<u32, usize>,
-    /// By the profile's code: trees with a node of its kinds that isn't warned.
-    let_pass: BTreeMap<u32, usize>,
-    /// Trees with a jump that is warned though a for stands above it.
-    afresh: usize,
-    /// Trees with more than two parameters of one name in a def or lambda.
-    thirds: usize,
 }
 
 impl Coverage {
@@ -114,7 +89,7 @@ impl Coverage {
         *self.loops.entry(loops(&tree.root)).or_default() += 1;
         self.limits(&tree);
         self.panics += usize::from(records(bytes).is_none());
-        let all = rules::records(bytes, Choices { profile: true, ..Choices::NONE }).concat();
+        let all = rules::records(bytes, Mode::Ordinary).concat();
         let codes: BTreeSet<u32> = all.iter().map(|r| r[0]).collect();
         *self.versions.entry(tree.version).or_default() += 1;
         *self.duplicates.entry(tree.version).or_default() += usize::from(codes.contains(&15));
@@ -125,7 +100,6 @@ impl Coverage {
         let reached = BITS.into_iter().filter(|bits| most >= Some(*bits));
         reached.for_each(|c| *self.two_forms.entry(c).or_default() += 1);
         self.nodes(&rules::met(bytes));
-        self.profile(&File::read(bytes).expect("a valid file").nodes, &all);
         if tree.version == 2 {
             self.exports(rules::freed(bytes).values().map(Vec::len).collect());
         }
@@ -143,19 +117,6 @@ impl Coverage {
         self.shared += usize::from(met.iter().any(|m| m.kinds.len() > 1));
         let later: BTreeSet<u32> = met.iter().filter(|m| m.at > 0).map(|m| m.code).collect();
         later.into_iter().for_each(|c| *self.later.entry(c).or_default() += 1);
-    }
-
-    /// What the profile's records show, and what it has none for.
-    fn profile(&mut self, nodes: &[file::Node], all: &[Record]) {
-        let warned: BTreeSet<usize> =
-            all.iter().filter(|r| PROFILE.contains(&r[0])).map(|r| r[8] as usize).collect();
-        let others = nodes.iter().enumerate().filter(|(i, _)| !warned.contains(i));
-        let let_pass: BTreeSet<u32> = others.filter_map(|(_, x)| profile_code(x.kind)).collect();
-        let_pass.into_iter().for_each(|c| *self.let_pass.entry(c).or_default() += 1);
-        let of = |code| all.iter().filter(move |r| r[0] == code);
-        self.afresh += usize::from(of(20).any(|r| below_a_for(nodes, r[8] as usize)));
-        let firsts: BTreeSet<u32> = of(22).map(|r| r[9]).collect();
-        self.thirds += usize::from(firsts.len() < of(22).count());
     }
 
     fn limits(&mut self, tree: &Tree) {
@@ -184,11 +145,7 @@ impl Coverage {
         let freed = counted(TIMES.into_iter().map(|c| (c, self.freed.get(&c))));
         line("trees of version 2 where x = x is free so often or more", freed);
         line("how often it is free there a second time or more", self.free_again.to_string());
-        line("trees by code", counted((1..=22).map(|c| (c, self.codes.get(&c)))));
-        let let_pass = counted(PROFILE.map(|c| (c, self.let_pass.get(&c))));
-        line("trees with a node that the profile looks at and lets pass, by its code", let_pass);
-        line("trees with 20 below a for, a def between", self.afresh.to_string());
-        line("trees with 22 at a third parameter of a name", self.thirds.to_string());
+        line("trees by code", counted((1..=17).map(|c| (c, self.codes.get(&c)))));
         line("trees by reason of equal keys", counted((1..=2).map(|c| (c, self.reasons.get(&c)))));
         let two_forms = counted(BITS.into_iter().map(|c| (c, self.two_forms.get(&c))));
         line("trees where strict keys have a number in two forms, of so many bits or more", two_forms);

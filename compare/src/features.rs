@@ -2,7 +2,7 @@
 //! that together its files show as much as possible.
 use crate::file::File;
 use crate::judge::refusal;
-use crate::rules::{self, Choices};
+use crate::rules::{self, Mode};
 use crate::tree::{Node, Tree};
 use originals::Record;
 use std::collections::{BTreeMap, BTreeSet};
@@ -130,7 +130,7 @@ pub fn features(file: &[u8]) -> Features {
         return out;
     }
     let tree = Tree::read(file);
-    let all = rules::records(file, Choices::NONE).concat();
+    let all = rules::records(file, Mode::Ordinary).concat();
     let mut codes: BTreeMap<(u32, u32), BTreeSet<u32>> = BTreeMap::new();
     for r in &all {
         codes.entry((r[1], r[2])).or_default().insert(r[0]);

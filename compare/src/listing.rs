@@ -1,16 +1,12 @@
 //! Document 01's listing, with the Rust behind it.
 use crate::file::version;
 use crate::judge::judge;
-use crate::rules::{self, Choices};
+use crate::rules::{self, Mode};
 use originals::Record;
 use std::cell::Cell;
 use std::fmt::Write;
-use std::ops::RangeInclusive;
 
-/// The passes in their order; the last is the profile's, which only the rules have.
-const PASSES: [&str; 5] = ["names", "flow", "incompatible", "dubious", "profile"];
-/// The codes of the stricter profile (02, §10).
-pub const PROFILE: RangeInclusive<u32> = 18..=22;
+pub const PASSES: [&str; 4] = ["names", "flow", "incompatible", "dubious"];
 /// The listing program's room in records, and the bytes that it reads.
 const ROOM: usize = 2048;
 const LONGEST: usize = 49152;
@@ -89,9 +85,9 @@ fn code(line: &str) -> Option<u32> {
     line.split(' ').next()?.parse().ok()
 }
 
-/// A listing without the records of some codes, its total less by so many.
-fn without(left_out: impl Fn(u32) -> bool, list: &str) -> String {
-    let (gone, kept): (Vec<&str>, _) = list.split('\n').partition(|line| code(line).is_some_and(&left_out));
+/// A listing without the records of a code, its total less by so many.
+fn without(left_out: u32, list: &str) -> String {
+    let (gone, kept): (Vec<&str>, _) = list.split('\n').partition(|line| code(line) == Some(left_out));
     let less = |line: &&str| {
         let total: i64 = line.strip_prefix("total ")?.parse().ok()?;
         Some(format!("total {}", total - gone.len() as i64))
@@ -103,35 +99,25 @@ fn without(left_out: impl Fn(u32) -> bool, list: &str) -> String {
 /// Who says what the records of a valid file are.
 #[derive(Clone, Copy)]
 pub enum Source {
-    /// The four files, unchanged; strict keys, reasons, dialect 2 and the profile are not theirs.
+    /// The four files, unchanged; strict keys, reasons and dialect 2 are not theirs.
     Rust,
-    /// Document 01 as rules.rs reads it, with the reasons, the nodes, the dialect and the profile of 02.
-    Rules(Choices),
+    /// Document 01 as rules.rs reads it, with the reasons, the nodes and the dialect of 02.
+    Rules(Mode),
 }
 
 impl Source {
-    /// The names of its passes.
-    pub fn passes(self) -> &'static [&'static str] {
+    fn records(self, bytes: &[u8]) -> Option<[Vec<Record>; 4]> {
         match self {
-            Source::Rules(choices) if choices.profile => &PASSES,
-            _ => &PASSES[..4],
+            Source::Rust => records(bytes),
+            Source::Rules(mode) => Some(rules::records(bytes, mode)),
         }
     }
 
-    fn records(self, bytes: &[u8]) -> Option<Vec<Vec<Record>>> {
-        match self {
-            Source::Rust => records(bytes).map(Vec::from),
-            Source::Rules(choices) => Some(rules::records(bytes, choices)),
-        }
-    }
-
-    /// Of a file's list, with the profile or without, what it has a word on. The Rust has none on the profile, and
-    /// "Demand 2 compares version 2 with the Rust in all but code 15".
-    pub fn part_of(self, file: &[u8], profile: bool, list: &str) -> String {
-        let dialect = version(file) == Some(2);
-        match self {
-            Source::Rust => without(|c| dialect && c == 15 || profile && PROFILE.contains(&c), list),
-            Source::Rules(_) => list.to_owned(),
+    /// Of a file's list what it has a word on: "Demand 2 compares version 2 with the Rust in all but code 15".
+    pub fn part_of(self, file: &[u8], list: &str) -> String {
+        match (self, version(file)) {
+            (Source::Rust, Some(2)) => without(15, list),
+            _ => list.to_owned(),
         }
     }
 

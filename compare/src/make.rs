@@ -5,7 +5,6 @@ mod limits;
 mod literals;
 mod numbers;
 mod order;
-mod profile;
 mod spans;
 mod statements;
 mod style;
@@ -30,28 +29,21 @@ pub struct Plan {
     pub floats: bool,
     /// Of either version, with loaded names that are exported again and again.
     pub dialect: bool,
-    /// With much of what the stricter profile warns of.
-    pub profile: bool,
 }
 
 impl Plan {
-    pub const FLAGS: [&'static str; 7] =
-        ["--any-order", "--damage", "--long", "--shared", "--floats", "--dialect", "--profile"];
+    pub const FLAGS: [&'static str; 6] =
+        ["--any-order", "--damage", "--long", "--shared", "--floats", "--dialect"];
 
     pub fn new(seed: u64, has: impl Fn(&str) -> bool) -> Plan {
-        let [any_order, damage, long, shared, floats, dialect, profile] = Plan::FLAGS.map(has);
-        Plan { seed, any_order, damage, long, shared, floats, dialect, profile }
-    }
-
-    /// Whether each flag is asked for.
-    fn asked(&self) -> [bool; 7] {
-        let Plan { any_order, damage, long, shared, floats, dialect, profile, .. } = *self;
-        [any_order, damage, long, shared, floats, dialect, profile]
+        let [any_order, damage, long, shared, floats, dialect] = Plan::FLAGS.map(has);
+        Plan { seed, any_order, damage, long, shared, floats, dialect }
     }
 
     /// As it stands in recorded.txt, to be given to `compare make`.
     pub fn words(&self, index: u64) -> String {
-        let flags = Plan::FLAGS.iter().zip(self.asked()).filter(|f| f.1).map(|f| format!(" {}", f.0));
+        let asked = [self.any_order, self.damage, self.long, self.shared, self.floats, self.dialect];
+        let flags = Plan::FLAGS.iter().zip(asked).filter(|f| f.1).map(|f| format!(" {}", f.0));
         format!("--seed {} --from {index} --count 1{}", self.seed, flags.collect::<String>())
     }
 
@@ -70,9 +62,8 @@ impl Plan {
 
     fn style(&self, r: &mut Random) -> Style {
         let style = if self.floats { Style::floats(r) } else { Style::any(r) };
-        let style = if self.dialect { style.dialect(r) } else { style };
-        if self.profile {
-            style.profile(r)
+        if self.dialect {
+            style.dialect(r)
         } else {
             style
         }
@@ -177,8 +168,8 @@ fn free(style: Style, r: &mut Random) -> Tree {
         46..=48 => r.range(120, 500),
         _ => r.range(500, 1024),
     };
-    // A load and some exports at least, or some parameters.
-    let nodes = if style.dialect || style.profile { nodes.max(r.range(8, 60)) } else { nodes };
+    // A load and some exports at least.
+    let nodes = if style.dialect { nodes.max(r.range(8, 60)) } else { nodes };
     let levels = if r.percent(80) { r.range(3, 20) } else { 48 };
     let mut maker = Maker { r, style };
     let room = Room { nodes, levels, in_loop: false, in_def: false };

@@ -2,7 +2,7 @@
 //! record changed at a time, held against each side.
 use crate::against::Side;
 use crate::file::version;
-use crate::rules::{Choices, Mode};
+use crate::rules::Mode;
 use std::collections::BTreeMap;
 
 /// So many records of a list are enough: in longer ones the same comes again and again.
@@ -25,14 +25,12 @@ fn records(list: &str) -> Vec<Vec<u32>> {
 /// What a number is that a side has no word on, by the file's version, the record's code and the place in it.
 type NotItsOwn = fn(Option<u16>, u32, usize) -> Option<&'static str>;
 
-/// A record that gets another code than 15, or than the profile's, is one more for the Rust, and that it notices.
+/// A record that gets another code than 15 is one more for the Rust, and that it notices.
 fn not_the_rusts(version: Option<u16>, code: u32, at: usize) -> Option<&'static str> {
     match (version, code, at) {
         (_, 16, 6 | 7) => Some("in reasons"),
         (_, 1..=6, 8 | 9) => Some("in nodes of 1 to 6"),
         (Some(2), 15, 1..) => Some("in code 15 of version 2"),
-        // Of the profile's codes 21 and 22 become one another.
-        (_, 18..=22, 1..) | (_, 21 | 22, 0) => Some("in the profile's records"),
         _ => None,
     }
 }
@@ -58,13 +56,11 @@ fn beside(side: Side, not_its_own: NotItsOwn, files: &[Vec<u8>], lists: &[String
     (wrong, format!("{}: {line}\n", side.name()))
 }
 
-/// Both sides, with ordinary keys, of lists with the profile or without; whether each noticed what it must and
-/// nothing else.
-pub fn noticed(profile: bool, files: &[Vec<u8>], lists: &[String]) -> (bool, String) {
-    let rules = Side::rules(Choices { keys: Mode::Ordinary, profile });
+/// Both sides, with ordinary keys; whether each noticed what it must and nothing else.
+pub fn noticed(files: &[Vec<u8>], lists: &[String]) -> (bool, String) {
     let found = [
-        beside(Side::rust(profile), not_the_rusts, files, lists),
-        beside(rules, |_, _, _| None, files, lists),
+        beside(Side::RUST, not_the_rusts, files, lists),
+        beside(Side::rules(Mode::Ordinary), |_, _, _| None, files, lists),
     ];
     (found.iter().all(|f| f.0 == 0), found.iter().map(|f| f.1.as_str()).collect())
 }

@@ -7,7 +7,7 @@ use crate::hand::{self, Made};
 use crate::judge::judge;
 use crate::listing::Source::{Rules, Rust};
 use crate::make::Plan;
-use crate::rules::Choices;
+use crate::rules::Mode;
 use std::collections::HashMap;
 use std::path::Path;
 
@@ -54,7 +54,7 @@ impl Seen {
 
 /// Bytes in the three files together.
 fn cost(made: &Made) -> usize {
-    made.file.len() + 4 + Rules(Choices::NONE).answer(&made.file, None).len() + 3 + made.how.len() + 8
+    made.file.len() + 4 + Rules(Mode::Ordinary).answer(&made.file, None).len() + 3 + made.how.len() + 8
 }
 
 fn generated(plan: Plan, count: u64) -> Vec<Candidate> {
@@ -118,8 +118,8 @@ fn choose(limits: &Limits) -> Vec<Made> {
 
 /// The Rust's list with what it doesn't have by the rules, which must agree on all else.
 fn whole_list(made: &Made) -> Result<String, String> {
-    let [rust, rules] = [Rust, Rules(Choices::NONE)].map(|source| source.answer(&made.file, None));
-    if !Side::rust(false).agrees(&made.file, &rust, &rules) {
+    let [rust, rules] = [Rust, Rules(Mode::Ordinary)].map(|source| source.answer(&made.file, None));
+    if !Side::RUST.agrees(&made.file, &rust, &rules) {
         return Err(format!("{}: the Rust and document 01's rules differ:\n{rust}and\n{rules}", made.how));
     }
     Ok(rules + "--\n")

@@ -1,11 +1,9 @@
 //! Document 01's rules as 01 words them, and the only opinion here on strict keys, on
 //! why two keys are equal (02, §11), on the node that a names record has (02, §4) and on code 15
 //! in version 2 (02, §9). Its author had read the Rust, so it is a second wording and not a blind one.
-//! Of the stricter profile (02, §10), which the Rust doesn't have, it is a first one.
 mod flow;
 mod keys;
 mod names;
-mod profile;
 mod top;
 mod view;
 
@@ -14,26 +12,10 @@ use originals::Record;
 use std::collections::{BTreeMap, BTreeSet};
 use view::View;
 
-/// What is chosen of a joined call.
-#[derive(Clone, Copy)]
-pub struct Choices {
-    pub keys: Mode,
-    /// Whether the profile's pass comes last.
-    pub profile: bool,
-}
-
-impl Choices {
-    /// As document 01 has the call.
-    pub const NONE: Choices = Choices { keys: Mode::Ordinary, profile: false };
-}
-
-/// The records of the four passes over a valid file, and of the profile's where it is chosen.
-pub fn records(bytes: &[u8], choices: Choices) -> Vec<Vec<Record>> {
+/// The records of the four passes over a valid file.
+pub fn records(bytes: &[u8], mode: Mode) -> [Vec<Record>; 4] {
     let view = View::new(bytes);
-    let mut out =
-        vec![names::list(&view), flow::list(&view), top::list(&view), keys::list(&view, choices.keys)];
-    out.extend(choices.profile.then(|| profile::list(&view)));
-    out
+    [names::list(&view), flow::list(&view), top::list(&view), keys::list(&view, mode)]
 }
 
 /// A record of names: its code, the kinds of the nodes that have its span and name, in file order,

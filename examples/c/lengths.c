@@ -1,49 +1,34 @@
-/* lengths: tries what include/yudronkha.h says of lengths and of a tree's version, on one tree each, with the profile and without, and
- * of a few codes; words behind each room must stay.
+/* lengths: tries what include/yudronkha.h says of lengths and of a tree's version, on one tree each, and of a few codes; words behind
+ * each room must stay.
  * Prints a line for each call that answers otherwise. Exit status: 0 none does, 1 one does, 2 header and library differ. */
 #include <stdio.h>
 #include <string.h>
 
 #include "yudronkha.h"
 
-enum { PATTERN = 0x5a, BEHIND = 4, ANSWER = 4 * YUDRONKHA_RECORD_WORDS, OUTPUT = YUDRONKHA_PROFILE_LOG_BYTES(3) };
+enum { PATTERN = 0x5a, BEHIND = 4, ANSWER = 3 * YUDRONKHA_RECORD_WORDS, OUTPUT = YUDRONKHA_LOG_BYTES(2) };
 
-/* A dict with the keys 9007199254740992 and 9007199254740992.0, then a return: a record of code 13, with strict keys one of code 16 too,
- * with the profile one of code 19 after them. */
+/* One statement, a dict with the keys 9007199254740992 and 9007199254740992.0: a record of code 13, with strict keys one of code 16 too. */
 static const uint8_t tree[] = {
-    'S', 'L', 'T', 1, 0, 8, 0, 2, 0, 255, 255,
-    8, 0, 8, 0, 0, 0, 0, 0, 16, 0, 0, 0, 255, 255, 0, 0,
+    'S', 'L', 'T', 1, 0, 6, 0, 2, 0, 255, 255,
     5, 0, 6, 0, 0, 0, 0, 0, 9, 0, 0, 0, 255, 255, 0, 0,
     29, 4, 5, 0, 0, 0, 0, 0, 9, 0, 0, 0, 255, 255, 0, 0,
     21, 8, 1, 0, 1, 0, 0, 0, 2, 0, 0, 0, 0, 0, 0, 0,
     21, 4, 1, 0, 3, 0, 0, 0, 4, 0, 0, 0, 0, 0, 0, 0,
     21, 8, 1, 0, 5, 0, 0, 0, 6, 0, 0, 0, 1, 0, 0, 0,
     21, 4, 1, 0, 7, 0, 0, 0, 8, 0, 0, 0, 0, 0, 0, 0,
-    4, 0, 1, 0, 10, 0, 0, 0, 16, 0, 0, 0, 255, 255, 0, 0,
     3, 7, 0, 0x20, 0x00, 0x00, 0x00, 0x00, 0x00, 0x00,
     4, 8, 0, 0x00, 0x00, 0x00, 0x00, 0x00, 0x00, 0x40, 0x43,
 };
 
-/* What a call is asked for. Keys and profile together are its place among the calls of its form. */
-enum { LIST = 0, STRICT = 1, PROFILE = 2, KEYS_AND_PROFILE = STRICT | PROFILE, CALLS, LOG = 4 };
-
-typedef size_t list_call(const uint8_t *, size_t, uint16_t *, size_t, uint32_t *, size_t, size_t *, size_t);
-typedef size_t log_call(const uint8_t *, size_t, uint16_t *, size_t, uint32_t *, size_t, uint8_t *, size_t, size_t *, size_t);
-static list_call *const list_calls[CALLS] = {
-    yudronkha_lint, yudronkha_lint_strict, yudronkha_lint_profile, yudronkha_lint_profile_strict,
-};
-static log_call *const log_calls[CALLS] = {
-    yudronkha_sarif, yudronkha_sarif_strict, yudronkha_sarif_profile, yudronkha_sarif_profile_strict,
-};
-
-/* The tree's log by each of these calls, as the first one with ample rooms writes it, and its bytes. */
-static uint8_t logs[CALLS][OUTPUT];
-static size_t log_bytes[CALLS];
+/* The log of the tree with ordinary and with strict keys, as the first call with ample rooms writes it, and its bytes. */
+static uint8_t logs[2][OUTPUT];
+static size_t log_bytes[2];
 
 /* The lengths of a call, and what it must answer. The output room of a log is so many bytes more than the log, or NONE. */
 struct call {
     const char *name;
-    int asked;
+    int log, strict;
     size_t tree_len, work_len, answer_len;
     int more;
     size_t report_len;
@@ -55,68 +40,42 @@ struct call {
 #define RECORD YUDRONKHA_RECORD_WORDS
 #define REPORT YUDRONKHA_REPORT_WORDS
 #define LOG_REPORT YUDRONKHA_SARIF_REPORT_WORDS
-#define PROFILE_REPORT YUDRONKHA_PROFILE_REPORT_WORDS
-#define PROFILE_LOG_REPORT YUDRONKHA_PROFILE_SARIF_REPORT_WORDS
 #define NONE (-OUTPUT)
 #define THE_LOGS SIZE_MAX /* the place of 12 */
 static const struct call calls[] = {
-    {"all rooms ample", LIST, TREE, WORK + 1, ANSWER, 0, REPORT + 1, 0, 1},
-    {"strict keys", STRICT, TREE, WORK + 1, ANSWER, 0, REPORT + 1, 0, 2},
-    {"answer room exact", LIST, TREE, WORK, RECORD, 0, REPORT, 0, 1},
-    {"answer room exact, strict keys", STRICT, TREE, WORK, 2 * RECORD, 0, REPORT, 0, 2},
-    {"no report", LIST, TREE, WORK, RECORD, 0, 0, 0, 1},
-    {"a report of one word", LIST, TREE, WORK, RECORD, 0, 1, 0, 1},
-    {"a report short of a word", LIST, TREE, WORK, RECORD, 0, REPORT - 1, 0, 1},
-    {"no work room", LIST, TREE, 0, ANSWER, 0, REPORT, 10, 0},
-    {"work room short of a word", LIST, TREE, WORK - 1, ANSWER, 0, REPORT, 10, 0},
-    {"no answer room", LIST, TREE, WORK, 0, 0, REPORT, 11, 1},
-    {"answer room short of a word", LIST, TREE, WORK + 1, RECORD - 1, 0, REPORT, 11, 1},
-    {"answer room short of a record, strict keys", STRICT, TREE, WORK, 2 * RECORD - 1, 0, REPORT, 11, 2},
-    {"no room at all", LIST, TREE, 0, 0, 0, 0, 10, 0},
-    {"an empty tree", LIST, 0, WORK, ANSWER, 0, REPORT, 1, 0},
-    {"a tree short of a byte", LIST, TREE - 1, WORK, ANSWER, 0, REPORT, 4, 0},
-    {"log, all rooms ample", LOG, TREE, WORK + 1, ANSWER, 9, LOG_REPORT + 1, 0, 1},
-    {"log, strict keys", LOG | STRICT, TREE, WORK + 1, ANSWER, 9, LOG_REPORT + 1, 0, 2},
-    {"log, rooms exact", LOG, TREE, WORK, RECORD, 0, LOG_REPORT, 0, 1},
-    {"log, rooms exact, strict keys", LOG | STRICT, TREE, WORK, 2 * RECORD, 0, LOG_REPORT, 0, 2},
-    {"log, a report short of a word", LOG, TREE, WORK, RECORD, 0, LOG_REPORT - 1, 0, 1},
-    {"log, no report", LOG, TREE, WORK, RECORD, 0, 0, 0, 1},
-    {"log, output room short of a byte", LOG, TREE, WORK + 1, ANSWER, -1, LOG_REPORT, 12, THE_LOGS},
-    {"log, output room short of a byte, strict keys", LOG | STRICT, TREE, WORK, ANSWER, -1, LOG_REPORT, 12, THE_LOGS},
-    {"log, no output room", LOG, TREE, WORK, ANSWER, NONE, LOG_REPORT, 12, THE_LOGS},
-    {"log, answer room short of a word too", LOG, TREE, WORK, RECORD - 1, -1, LOG_REPORT, 11, 1},
-    {"log, work room short of a word too", LOG, TREE, WORK - 1, RECORD - 1, -1, LOG_REPORT, 10, 0},
-    {"log, an empty tree", LOG, 0, WORK, ANSWER, 0, LOG_REPORT, 1, 0},
-    {"profile, all rooms ample", PROFILE, TREE, WORK + 1, ANSWER, 0, PROFILE_REPORT + 1, 0, 2},
-    {"profile, strict keys", PROFILE | STRICT, TREE, WORK + 1, ANSWER, 0, PROFILE_REPORT + 1, 0, 3},
-    {"profile, answer room exact", PROFILE, TREE, WORK, 2 * RECORD, 0, PROFILE_REPORT, 0, 2},
-    {"profile, answer room exact, strict keys", PROFILE | STRICT, TREE, WORK, 3 * RECORD, 0, PROFILE_REPORT, 0, 3},
-    {"profile, no report", PROFILE, TREE, WORK, 2 * RECORD, 0, 0, 0, 2},
-    {"profile, a report without the profile's counts", PROFILE, TREE, WORK, 2 * RECORD, 0, REPORT, 0, 2},
-    {"profile, a report short of a word", PROFILE, TREE, WORK, 2 * RECORD, 0, PROFILE_REPORT - 1, 0, 2},
-    {"profile, work room short of a word", PROFILE, TREE, WORK - 1, ANSWER, 0, PROFILE_REPORT, 10, 0},
-    {"profile, no answer room", PROFILE, TREE, WORK, 0, 0, PROFILE_REPORT, 11, 2},
-    {"profile, answer room for the list without it", PROFILE, TREE, WORK, RECORD, 0, PROFILE_REPORT, 11, 2},
-    {"profile, answer room short of a word", PROFILE, TREE, WORK, 2 * RECORD - 1, 0, PROFILE_REPORT, 11, 2},
-    {"profile, answer room short of a word, strict keys", PROFILE | STRICT, TREE, WORK, 3 * RECORD - 1, 0, PROFILE_REPORT, 11, 3},
-    {"profile, an empty tree", PROFILE, 0, WORK, ANSWER, 0, PROFILE_REPORT, 1, 0},
-    {"profile, a tree short of a byte", PROFILE, TREE - 1, WORK, ANSWER, 0, PROFILE_REPORT, 4, 0},
-    {"profile's log, all rooms ample", PROFILE | LOG, TREE, WORK + 1, ANSWER, 9, PROFILE_LOG_REPORT + 1, 0, 2},
-    {"profile's log, strict keys", PROFILE | LOG | STRICT, TREE, WORK + 1, ANSWER, 9, PROFILE_LOG_REPORT + 1, 0, 3},
-    {"profile's log, rooms exact", PROFILE | LOG, TREE, WORK, 2 * RECORD, 0, PROFILE_LOG_REPORT, 0, 2},
-    {"profile's log, rooms exact, strict keys", PROFILE | LOG | STRICT, TREE, WORK, 3 * RECORD, 0, PROFILE_LOG_REPORT, 0, 3},
-    {"profile's log, a report short of a word", PROFILE | LOG, TREE, WORK, 2 * RECORD, 0, PROFILE_LOG_REPORT - 1, 0, 2},
-    {"profile's log, output room short of a byte", PROFILE | LOG, TREE, WORK, ANSWER, -1, PROFILE_LOG_REPORT, 12, THE_LOGS},
-    {"profile's log, no output room", PROFILE | LOG | STRICT, TREE, WORK, ANSWER, NONE, PROFILE_LOG_REPORT, 12, THE_LOGS},
-    {"profile's log, answer room short of a word too", PROFILE | LOG, TREE, WORK, 2 * RECORD - 1, -1, PROFILE_LOG_REPORT, 11, 2},
-    {"profile's log, work room short of a word too", PROFILE | LOG, TREE, WORK - 1, RECORD - 1, -1, PROFILE_LOG_REPORT, 10, 0},
-    {"profile's log, an empty tree", PROFILE | LOG, 0, WORK, ANSWER, 0, PROFILE_LOG_REPORT, 1, 0},
+    {"all rooms ample", 0, 0, TREE, WORK + 1, ANSWER, 0, REPORT + 1, 0, 1},
+    {"strict keys", 0, 1, TREE, WORK + 1, ANSWER, 0, REPORT + 1, 0, 2},
+    {"answer room exact", 0, 0, TREE, WORK, RECORD, 0, REPORT, 0, 1},
+    {"answer room exact, strict keys", 0, 1, TREE, WORK, 2 * RECORD, 0, REPORT, 0, 2},
+    {"no report", 0, 0, TREE, WORK, RECORD, 0, 0, 0, 1},
+    {"a report of one word", 0, 0, TREE, WORK, RECORD, 0, 1, 0, 1},
+    {"a report short of a word", 0, 0, TREE, WORK, RECORD, 0, REPORT - 1, 0, 1},
+    {"no work room", 0, 0, TREE, 0, ANSWER, 0, REPORT, 10, 0},
+    {"work room short of a word", 0, 0, TREE, WORK - 1, ANSWER, 0, REPORT, 10, 0},
+    {"no answer room", 0, 0, TREE, WORK, 0, 0, REPORT, 11, 1},
+    {"answer room short of a word", 0, 0, TREE, WORK + 1, RECORD - 1, 0, REPORT, 11, 1},
+    {"answer room short of a record, strict keys", 0, 1, TREE, WORK, 2 * RECORD - 1, 0, REPORT, 11, 2},
+    {"no room at all", 0, 0, TREE, 0, 0, 0, 0, 10, 0},
+    {"an empty tree", 0, 0, 0, WORK, ANSWER, 0, REPORT, 1, 0},
+    {"a tree short of a byte", 0, 0, TREE - 1, WORK, ANSWER, 0, REPORT, 4, 0},
+    {"log, all rooms ample", 1, 0, TREE, WORK + 1, ANSWER, 9, LOG_REPORT + 1, 0, 1},
+    {"log, strict keys", 1, 1, TREE, WORK + 1, ANSWER, 9, LOG_REPORT + 1, 0, 2},
+    {"log, rooms exact", 1, 0, TREE, WORK, RECORD, 0, LOG_REPORT, 0, 1},
+    {"log, rooms exact, strict keys", 1, 1, TREE, WORK, 2 * RECORD, 0, LOG_REPORT, 0, 2},
+    {"log, a report short of a word", 1, 0, TREE, WORK, RECORD, 0, LOG_REPORT - 1, 0, 1},
+    {"log, no report", 1, 0, TREE, WORK, RECORD, 0, 0, 0, 1},
+    {"log, output room short of a byte", 1, 0, TREE, WORK + 1, ANSWER, -1, LOG_REPORT, 12, THE_LOGS},
+    {"log, output room short of a byte, strict keys", 1, 1, TREE, WORK, ANSWER, -1, LOG_REPORT, 12, THE_LOGS},
+    {"log, no output room", 1, 0, TREE, WORK, ANSWER, NONE, LOG_REPORT, 12, THE_LOGS},
+    {"log, answer room short of a word too", 1, 0, TREE, WORK, RECORD - 1, -1, LOG_REPORT, 11, 1},
+    {"log, work room short of a word too", 1, 0, TREE, WORK - 1, RECORD - 1, -1, LOG_REPORT, 10, 0},
+    {"log, an empty tree", 1, 0, 0, WORK, ANSWER, 0, LOG_REPORT, 1, 0},
 };
 
 static uint16_t work[WORK + 1 + BEHIND];
 static uint32_t answer[ANSWER + BEHIND];
 static uint8_t output[OUTPUT + BEHIND];
-static size_t report[PROFILE_LOG_REPORT + 1 + BEHIND];
+static size_t report[LOG_REPORT + 1 + BEHIND];
 
 #define COUNT(array) (sizeof array / sizeof *array)
 
@@ -131,61 +90,32 @@ static void fill(void)
     memset(output, PATTERN, sizeof output);
 }
 
-static size_t whole_report(int asked)
-{
-    if (asked & PROFILE)
-        return asked & LOG ? PROFILE_LOG_REPORT : PROFILE_REPORT;
-    return asked & LOG ? LOG_REPORT : REPORT;
-}
-
-/* The word after the counts. */
-static size_t bytes_word(int asked)
-{
-    return asked & PROFILE ? YUDRONKHA_PROFILE_REPORT_BYTES : YUDRONKHA_REPORT_BYTES;
-}
-
 static size_t report_word(const struct call *c, size_t k)
 {
-    size_t bytes = log_bytes[c->asked & KEYS_AND_PROFILE];
-    if (k >= c->report_len || k >= whole_report(c->asked))
+    if (k >= c->report_len || k >= (c->log ? LOG_REPORT : REPORT))
         return PATTERN;
     if (k == 0)
-        return c->place == THE_LOGS ? bytes : c->place;
+        return c->place == THE_LOGS ? log_bytes[c->strict] : c->place;
     if (c->number != YUDRONKHA_LISTED)
         return 0;
-    if (k == bytes_word(c->asked))
-        return bytes;
-    return k == YUDRONKHA_NO_EFFECT || (k == YUDRONKHA_DUPLICATE_KEY && c->asked & STRICT) ||
-           (k == YUDRONKHA_RETURN_OUTSIDE_DEF && c->asked & PROFILE);
+    if (k == YUDRONKHA_REPORT_BYTES)
+        return log_bytes[c->strict];
+    return k == YUDRONKHA_NO_EFFECT || (k == YUDRONKHA_DUPLICATE_KEY && c->strict);
 }
 
-/* At the dict. */
-static int dict_given(const uint32_t *record)
+/* The first record is at the dict. */
+static int dict_given(void)
 {
-    return record[YUDRONKHA_CODE] == YUDRONKHA_NO_EFFECT && record[YUDRONKHA_NODE] == 2 &&
-           record[YUDRONKHA_SECOND_NODE] == YUDRONKHA_NO_NODE;
+    return answer[YUDRONKHA_CODE] == YUDRONKHA_NO_EFFECT && answer[YUDRONKHA_NODE] == 1 &&
+           answer[YUDRONKHA_SECOND_NODE] == YUDRONKHA_NO_NODE;
 }
 
-/* At the first key. */
-static int keys_given(const uint32_t *record)
+/* The record of strict keys comes second, at the first key. */
+static int keys_given(void)
 {
+    const uint32_t *record = answer + RECORD;
     return record[YUDRONKHA_CODE] == YUDRONKHA_DUPLICATE_KEY && record[YUDRONKHA_REASON] == YUDRONKHA_SAME_NUMBER &&
-           record[YUDRONKHA_THIRD_END] == 0 && record[YUDRONKHA_NODE] == 3 && record[YUDRONKHA_SECOND_NODE] == 5;
-}
-
-/* At the return, from byte 10 to 16. */
-static int return_given(const uint32_t *record)
-{
-    return record[YUDRONKHA_CODE] == YUDRONKHA_RETURN_OUTSIDE_DEF && record[YUDRONKHA_BEGIN] == 10 && record[YUDRONKHA_END] == 16 &&
-           record[YUDRONKHA_VALUE] == YUDRONKHA_NO_VALUE && record[YUDRONKHA_SECOND_END] == 0 && record[YUDRONKHA_NODE] == 7 &&
-           record[YUDRONKHA_SECOND_NODE] == YUDRONKHA_NO_NODE;
-}
-
-/* The dict's record, then that of strict keys, then the profile's. */
-static int records_given(int asked)
-{
-    const uint32_t *last = answer + (asked & STRICT ? 2 : 1) * RECORD;
-    return dict_given(answer) && (!(asked & STRICT) || keys_given(answer + RECORD)) && (!(asked & PROFILE) || return_given(last));
+           record[YUDRONKHA_THIRD_END] == 0 && record[YUDRONKHA_NODE] == 2 && record[YUDRONKHA_SECOND_NODE] == 4;
 }
 
 /* Every word of work room and report, every byte of the output room, the answer room past the records, codes, nodes and reason of the
@@ -195,7 +125,7 @@ static int as_said(const struct call *c)
     int listed = c->number == YUDRONKHA_LISTED;
     int cleared = listed || c->number >= YUDRONKHA_REFUSED_ANSWER_ROOM;
     size_t records = listed ? c->place * RECORD : 0;
-    size_t bytes = listed && c->asked & LOG ? log_bytes[c->asked & KEYS_AND_PROFILE] : 0;
+    size_t bytes = listed && c->log ? log_bytes[c->strict] : 0;
     for (size_t k = 0; k < COUNT(work); k++)
         if (work[k] != (cleared && k < WORK ? 0 : PATTERN))
             return 0;
@@ -208,28 +138,28 @@ static int as_said(const struct call *c)
     for (size_t k = bytes; k < COUNT(output); k++)
         if (output[k] != PATTERN)
             return 0;
-    if (listed && !records_given(c->asked))
+    if (listed && !(dict_given() && (!c->strict || keys_given())))
         return 0;
-    return memcmp(output, logs[c->asked & KEYS_AND_PROFILE], bytes) == 0;
+    return memcmp(output, logs[c->strict], bytes) == 0;
 }
 
 static size_t called(const struct call *c)
 {
-    int which = c->asked & KEYS_AND_PROFILE;
-    if (!(c->asked & LOG))
-        return list_calls[which](tree, c->tree_len, work, c->work_len, answer, c->answer_len, report, c->report_len);
-    return log_calls[which](tree, c->tree_len, work, c->work_len, answer, c->answer_len, output,
-                            c->more == NONE ? 0 : log_bytes[which] + (size_t)c->more, report, c->report_len);
+    if (!c->log)
+        return (c->strict ? yudronkha_lint_strict : yudronkha_lint)(
+            tree, c->tree_len, work, c->work_len, answer, c->answer_len, report, c->report_len);
+    return (c->strict ? yudronkha_sarif_strict : yudronkha_sarif)(
+        tree, c->tree_len, work, c->work_len, answer, c->answer_len, output,
+        c->more == NONE ? 0 : log_bytes[c->strict] + (size_t)c->more, report, c->report_len);
 }
 
 /* The whole log: one line's end at its end, and of a room of that size nothing left. */
-static int log_kept(int which)
+static int log_kept(int strict)
 {
-    size_t number =
-        log_calls[which](tree, TREE, work, COUNT(work), answer, COUNT(answer), logs[which], OUTPUT, report, COUNT(report));
-    size_t bytes = report[bytes_word(which)];
-    log_bytes[which] = bytes;
-    return number == YUDRONKHA_LISTED && 0 < bytes && bytes < OUTPUT && logs[which][0] == '{' && logs[which][bytes - 1] == '\n';
+    size_t number = (strict ? yudronkha_sarif_strict : yudronkha_sarif)(
+        tree, TREE, work, COUNT(work), answer, COUNT(answer), logs[strict], OUTPUT, report, COUNT(report));
+    log_bytes[strict] = report[YUDRONKHA_REPORT_BYTES];
+    return number == YUDRONKHA_LISTED && log_bytes[strict] < OUTPUT && logs[strict][0] == '{' && logs[strict][log_bytes[strict] - 1] == '\n';
 }
 
 /* load x, x = x, x = x, its version at byte 3: in version 1 the last line is a record of code 15, in version 2 nothing is. */
@@ -260,14 +190,14 @@ static const struct version {
     {65535, YUDRONKHA_REFUSED_VERSION, 0},
 };
 
-static int version_taken(const struct version *v, int which)
+static int version_taken(const struct version *v, int strict)
 {
     uint8_t bytes[sizeof loaded];
     memcpy(bytes, loaded, sizeof loaded);
     bytes[3] = v->version & 255;
     bytes[4] = v->version >> 8;
     fill();
-    size_t number = list_calls[which](bytes, sizeof bytes, work, WORK, answer, ANSWER, report, COUNT(report));
+    size_t number = (strict ? yudronkha_lint_strict : yudronkha_lint)(bytes, sizeof bytes, work, WORK, answer, ANSWER, report, REPORT);
     if (number != v->number || report[0] != v->records || report[YUDRONKHA_DUPLICATE_TOP_LEVEL_ASSIGN] != v->records)
         return 0;
     return v->records == 0 ? answer[0] == PATTERN
@@ -287,12 +217,7 @@ static const struct code {
     {YUDRONKHA_REDUNDANT_CONTINUE, "redundant-continue", YUDRONKHA_DISABLED},
     {YUDRONKHA_DUPLICATE_TOP_LEVEL_ASSIGN, "duplicate-top-level-assign", YUDRONKHA_WARNING},
     {YUDRONKHA_IDENTIFIER_AS_STATEMENT, "ident-as-statement", YUDRONKHA_WARNING},
-    {YUDRONKHA_TOP_LEVEL_FLOW, "top-level-flow", YUDRONKHA_WARNING},
-    {YUDRONKHA_RETURN_OUTSIDE_DEF, "return-outside-def", YUDRONKHA_WARNING},
-    {YUDRONKHA_JUMP_OUTSIDE_LOOP, "jump-outside-loop", YUDRONKHA_WARNING},
-    {YUDRONKHA_NESTED_LOAD, "nested-load", YUDRONKHA_WARNING},
-    {YUDRONKHA_DUPLICATE_PARAMETER, "duplicate-parameter", YUDRONKHA_WARNING},
-    {YUDRONKHA_PROFILE_CODES + 1, "", YUDRONKHA_WARNING},
+    {YUDRONKHA_CODES + 1, "", YUDRONKHA_WARNING},
     {((size_t)1 << 32) + YUDRONKHA_UNUSED_LOAD, "", YUDRONKHA_WARNING},
     {SIZE_MAX, "", YUDRONKHA_WARNING},
 };
@@ -317,11 +242,10 @@ int main(void)
         printf("yudronkha.h is of version %d and the library of %zu\n", YUDRONKHA_VERSION, yudronkha_version());
         return 2;
     }
-    for (int which = 0; which < CALLS; which++)
-        if (!log_kept(which)) {
-            puts("the log in ample rooms is not as the header says");
-            return 1;
-        }
+    if (!log_kept(0) || !log_kept(1)) {
+        puts("the log in ample rooms is not as the header says");
+        return 1;
+    }
     for (size_t i = 0; i < COUNT(calls); i++) {
         fill();
         size_t number = called(&calls[i]);
@@ -331,11 +255,10 @@ int main(void)
         }
     }
     for (size_t i = 0; i < COUNT(versions); i++)
-        for (int which = 0; which < CALLS; which++)
-            if (!version_taken(&versions[i], which)) {
-                printf("a tree of version %u: not as the header says\n", versions[i].version);
-                status = 1;
-            }
+        if (!version_taken(&versions[i], 0) || !version_taken(&versions[i], 1)) {
+            printf("a tree of version %u: not as the header says\n", versions[i].version);
+            status = 1;
+        }
     for (size_t i = 0; i < COUNT(codes); i++)
         if (!named(&codes[i])) {
             printf("code %zu: severity or name is not as the header says\n", codes[i].code);

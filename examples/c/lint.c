@@ -1,6 +1,5 @@
-/* lint [--profile] [--sarif] [FILE]: lints a tree file, or standard input, and prints what the desk's program prints of it: ten numbers
- * for each record, then the total; with --sarif the list as one SARIF log; else the refusal's number and place, or `too long`. With
- * --profile the list has the stricter profile's records, too.
+/* lint [--sarif] [FILE]: lints a tree file, or standard input, and prints what the desk's program prints of it: ten numbers for each
+ * record, then the total; with --sarif the list as one SARIF log; else the refusal's number and place, or `too long`.
  * Exit status: 0 no warning, 1 a warning, 2 refused or too long, a file that can't be read or written, or wrong use. */
 #include <stdio.h>
 #include <stdlib.h>
@@ -16,19 +15,12 @@ enum { CLEAN = 0, FOUND = 1, TROUBLE = 2 };
 /* One byte more than a valid tree has, to see that there is one. */
 static uint8_t tree[YUDRONKHA_TREE_BYTES_MOST + 1];
 static uint16_t work[YUDRONKHA_WORK_WORDS];
-/* Enough for every call, with the profile or not. */
-static uint32_t answer[YUDRONKHA_PROFILE_RECORDS_MOST * YUDRONKHA_RECORD_WORDS];
-static size_t report[YUDRONKHA_PROFILE_SARIF_REPORT_WORDS];
+static uint32_t answer[YUDRONKHA_RECORDS_MOST * YUDRONKHA_RECORD_WORDS];
+static size_t report[YUDRONKHA_SARIF_REPORT_WORDS];
 
-/* What the command line asks for. */
-struct asked {
-    int profile, log;
-};
-
-static size_t list(size_t len, int profile)
+static size_t list(size_t len)
 {
-    size_t number = (profile ? yudronkha_lint_profile : yudronkha_lint)(
-        tree, len, work, COUNT(work), answer, COUNT(answer), report, COUNT(report));
+    size_t number = yudronkha_lint(tree, len, work, COUNT(work), answer, COUNT(answer), report, COUNT(report));
     if (number != YUDRONKHA_LISTED)
         return number;
     for (size_t k = 0; k < report[0] * YUDRONKHA_RECORD_WORDS; k++)
@@ -38,7 +30,7 @@ static size_t list(size_t len, int profile)
 }
 
 /* Starts with little room for the log. Where that is refused, report[0] says how many bytes it has, and the second call succeeds. */
-static size_t sarif(size_t len, int profile)
+static size_t sarif(size_t len)
 {
     size_t bytes = 4096;
     for (;;) {
@@ -47,10 +39,9 @@ static size_t sarif(size_t len, int profile)
             fputs("lint: out of memory\n", stderr);
             exit(TROUBLE);
         }
-        size_t number = (profile ? yudronkha_sarif_profile : yudronkha_sarif)(
-            tree, len, work, COUNT(work), answer, COUNT(answer), output, bytes, report, COUNT(report));
+        size_t number = yudronkha_sarif(tree, len, work, COUNT(work), answer, COUNT(answer), output, bytes, report, COUNT(report));
         if (number == YUDRONKHA_LISTED)
-            fwrite(output, 1, report[profile ? YUDRONKHA_PROFILE_REPORT_BYTES : YUDRONKHA_REPORT_BYTES], stdout);
+            fwrite(output, 1, report[YUDRONKHA_REPORT_BYTES], stdout);
         free(output);
         if (number != YUDRONKHA_REFUSED_OUTPUT_ROOM)
             return number;
@@ -58,49 +49,35 @@ static size_t sarif(size_t len, int profile)
     }
 }
 
-/* Codes of severity disabled are no reason to turn a script down. Behind the last count of a report stands something else. */
-static int status_of(size_t number, int profile)
+/* Codes of severity disabled are no reason to turn a script down. */
+static int status_of(size_t number)
 {
-    size_t last = profile ? YUDRONKHA_PROFILE_CODES : YUDRONKHA_CODES;
     if (number != YUDRONKHA_LISTED)
         return TROUBLE;
-    for (size_t code = 1; code <= last; code++)
+    for (size_t code = 1; code <= YUDRONKHA_CODES; code++)
         if (report[code] != 0 && yudronkha_severity(code) == YUDRONKHA_WARNING)
             return FOUND;
     return CLEAN;
 }
 
-static int lint(size_t len, struct asked asked)
+static int lint(size_t len, int as_log)
 {
     if (len > YUDRONKHA_TREE_BYTES_MOST) {
         puts("too long");
         return TROUBLE;
     }
-    size_t number = asked.log ? sarif(len, asked.profile) : list(len, asked.profile);
+    size_t number = as_log ? sarif(len) : list(len);
     if (number != YUDRONKHA_LISTED)
         printf("refused %zu %zu\n", number, report[0]);
-    return status_of(number, asked.profile);
-}
-
-/* Takes an option; whether it is one. */
-static int taken(const char *word, struct asked *asked)
-{
-    if (strcmp(word, "--profile") == 0)
-        return asked->profile = 1;
-    if (strcmp(word, "--sarif") == 0)
-        return asked->log = 1;
-    return 0;
+    return status_of(number);
 }
 
 int main(int argc, char **argv)
 {
-    struct asked asked = {0, 0};
-    int at = 1;
-    while (at < argc && taken(argv[at], &asked))
-        at++;
-    const char *name = at < argc ? argv[at] : NULL;
-    if (argc > at + 1 || (name != NULL && name[0] == '-')) {
-        fputs("usage: lint [--profile] [--sarif] [FILE]\n", stderr);
+    int as_log = argc > 1 && strcmp(argv[1], "--sarif") == 0;
+    const char *name = argv[1 + as_log];
+    if (argc > 2 + as_log || (name != NULL && name[0] == '-')) {
+        fputs("usage: lint [--sarif] [FILE]\n", stderr);
         return TROUBLE;
     }
     if (yudronkha_version() != YUDRONKHA_VERSION) {
@@ -113,7 +90,7 @@ int main(int argc, char **argv)
         perror(name == NULL ? "lint: standard input" : name);
         return TROUBLE;
     }
-    int status = lint(len, asked);
+    int status = lint(len, as_log);
     int unwritten = ferror(stdout);
     if (fclose(stdout) != 0 || unwritten) {
         perror("lint: standard output");

@@ -1,6 +1,5 @@
-//! lint [--profile] [FILE]: lints a tree file, or standard input, and prints what the desk's program prints of it: ten numbers for
-//! each record, then the total; or the refusal's number and place, or `too long`. With --profile the list has the stricter
-//! profile's records, too.
+//! lint [FILE]: lints a tree file, or standard input, and prints what the desk's program prints of it: ten numbers for each
+//! record, then the total; or the refusal's number and place, or `too long`.
 //! Exit status: 0 no warning, 1 a warning, 2 refused or too long, a file that can't be read or written, or wrong use.
 
 use std::env;
@@ -11,12 +10,11 @@ use std::process::ExitCode;
 
 /// include/yudronkha.h; nothing but the version compares this declaration with it.
 mod yudronkha {
-    pub const VERSION: usize = 30200;
+    pub const VERSION: usize = 30100;
     pub const TREE_BYTES_MOST: usize = 149_515;
     pub const WORK_WORDS: usize = 32_768;
     pub const RECORD_WORDS: usize = 10;
-    /// Those of a list with the profile, which has more.
-    pub const PROFILE_REPORT_WORDS: usize = 23;
+    pub const REPORT_WORDS: usize = 18;
     const REFUSED_ANSWER_ROOM: usize = 11;
     const WARNING: usize = 1;
 
@@ -27,16 +25,6 @@ mod yudronkha {
         fn yudronkha_version() -> usize;
         fn yudronkha_severity(code: usize) -> usize;
         fn yudronkha_lint(
-            tree: *const u8,
-            tree_len: usize,
-            work: *mut u16,
-            work_len: usize,
-            answer: *mut u32,
-            answer_len: usize,
-            report: *mut usize,
-            report_len: usize,
-        ) -> usize;
-        fn yudronkha_lint_profile(
             tree: *const u8,
             tree_len: usize,
             work: *mut u16,
@@ -58,16 +46,9 @@ mod yudronkha {
     }
 
     /// 0, or the number of the refusal. Safe: slices are all that the header asks of a caller, but for the stack.
-    pub fn lint(
-        profile: bool,
-        tree: &[u8],
-        work: &mut [u16],
-        answer: &mut [u32],
-        report: &mut [usize],
-    ) -> usize {
-        let call = if profile { yudronkha_lint_profile } else { yudronkha_lint };
+    pub fn lint(tree: &[u8], work: &mut [u16], answer: &mut [u32], report: &mut [usize]) -> usize {
         unsafe {
-            call(
+            yudronkha_lint(
                 tree.as_ptr(),
                 tree.len(),
                 work.as_mut_ptr(),
@@ -82,12 +63,12 @@ mod yudronkha {
 
     /// The records, or the refusal's number and place.
     /// Starts with room for few records. Where that is refused, report[0] says how many there are, and the second call succeeds.
-    pub fn lint_all(profile: bool, tree: &[u8]) -> Result<Vec<u32>, (usize, usize)> {
+    pub fn lint_all(tree: &[u8]) -> Result<Vec<u32>, (usize, usize)> {
         let mut work = vec![0; WORK_WORDS];
-        let mut report = [0; PROFILE_REPORT_WORDS];
+        let mut report = [0; REPORT_WORDS];
         let mut answer = vec![0; 64 * RECORD_WORDS];
         loop {
-            match lint(profile, tree, &mut work, &mut answer, &mut report) {
+            match lint(tree, &mut work, &mut answer, &mut report) {
                 0 => {
                     answer.truncate(report[0] * RECORD_WORDS);
                     return Ok(answer);
@@ -123,12 +104,12 @@ fn print(answer: &[u32], out: &mut impl Write) -> io::Result<()> {
     writeln!(out, "total {}", answer.len() / yudronkha::RECORD_WORDS)
 }
 
-fn lint(profile: bool, tree: &[u8], out: &mut impl Write) -> io::Result<u8> {
+fn lint(tree: &[u8], out: &mut impl Write) -> io::Result<u8> {
     if tree.len() > yudronkha::TREE_BYTES_MOST {
         writeln!(out, "too long")?;
         return Ok(TROUBLE);
     }
-    match yudronkha::lint_all(profile, tree) {
+    match yudronkha::lint_all(tree) {
         Ok(answer) => {
             print(&answer, out)?;
             let warned =
@@ -143,13 +124,9 @@ fn lint(profile: bool, tree: &[u8], out: &mut impl Write) -> io::Result<u8> {
 }
 
 fn run() -> Result<u8, String> {
-    let mut words: Vec<OsString> = env::args_os().skip(1).collect();
-    let profile = words.first().is_some_and(|word| word == "--profile");
-    if profile {
-        words.remove(0);
-    }
+    let words: Vec<OsString> = env::args_os().skip(1).collect();
     if words.len() > 1 || words.iter().any(|word| word.to_string_lossy().starts_with('-')) {
-        return Err("usage: lint [--profile] [FILE]".to_string());
+        return Err("usage: lint [FILE]".to_string());
     }
     let (here, there) = (yudronkha::VERSION, yudronkha::version());
     if here != there {
@@ -159,7 +136,7 @@ fn run() -> Result<u8, String> {
     let shown = name.map_or("standard input".into(), |name| name.to_string_lossy());
     let tree = read(name).map_err(|why| format!("{shown}: {why}"))?;
     let mut out = io::BufWriter::new(io::stdout().lock());
-    let status = lint(profile, &tree, &mut out).and_then(|status| out.flush().map(|()| status));
+    let status = lint(&tree, &mut out).and_then(|status| out.flush().map(|()| status));
     status.map_err(|why| format!("standard output: {why}"))
 }
 

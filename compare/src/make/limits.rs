@@ -8,9 +8,6 @@ use crate::tree::{Node, Tree};
 
 pub fn tree(style: Style, r: &mut Random) -> Tree {
     let mut maker = Maker { style, r };
-    if maker.style.profile && maker.r.percent(40) {
-        return maker.most_warned();
-    }
     match maker.r.below(10) {
         0 | 1 => maker.most_nodes(),
         2 => maker.most_values(),
@@ -153,7 +150,7 @@ impl Maker<'_> {
         }
     }
 
-    pub fn around_statement(&mut self, x: Node) -> Node {
+    fn around_statement(&mut self, x: Node) -> Node {
         let other = self.small().role(4);
         let name = Node::with(40, 5, (0, self.name()));
         let body = x.role(1);

@@ -100,9 +100,6 @@ impl Maker<'_> {
         if self.exports(room) {
             return self.export(room);
         }
-        if self.strays() {
-            return self.stray(room);
-        }
         let mut weights = self.style.statements;
         for (weight, (nodes, levels)) in weights.iter_mut().zip(NEEDS) {
             if room.nodes < nodes || room.levels < levels {
@@ -119,7 +116,7 @@ impl Maker<'_> {
         self.statement_of(kind, room)
     }
 
-    pub fn statement_of(&mut self, kind: u8, room: Room) -> Node {
+    fn statement_of(&mut self, kind: u8, room: Room) -> Node {
         let n = room.nodes - 1;
         let children = match kind {
             1..=3 => vec![],
@@ -212,9 +209,6 @@ impl Maker<'_> {
 
     /// Parameters of a def or lambda, with types and defaults.
     pub fn parameters(&mut self, room: Room, nodes: usize) -> Vec<Node> {
-        if self.style.profile {
-            return self.alike(room, nodes);
-        }
         self.several(nodes, 6, |me, nodes| {
             let deep = room.levels > 2;
             let inner = if deep { me.r.below(nodes.min(12)) } else { 0 };

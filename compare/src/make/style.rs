@@ -17,8 +17,6 @@ pub struct Style {
     pub floats: bool,
     /// Statements mostly load names and assign them to themselves.
     pub dialect: bool,
-    /// Much that the stricter profile looks at.
-    pub profile: bool,
 }
 
 const MIXED: [usize; 13] = [2, 2, 2, 4, 14, 14, 6, 2, 8, 8, 6, 6, 2];
@@ -27,13 +25,11 @@ const BRANCHES: [usize; 13] = [4, 3, 2, 6, 9, 14, 4, 2, 14, 18, 4, 2, 0];
 const DEFS: [usize; 13] = [1, 1, 1, 14, 10, 6, 2, 2, 8, 9, 3, 18, 0];
 const TOP: [usize; 13] = [0, 0, 1, 1, 6, 22, 9, 3, 5, 4, 4, 6, 14];
 const EXPORTS: [usize; 13] = [1, 1, 1, 1, 4, 8, 4, 5, 14, 14, 12, 5, 4];
-const STRAYS: [usize; 13] = [4, 4, 1, 5, 8, 4, 1, 8, 9, 9, 12, 14, 5];
 const FLAT: [usize; 13] = [0, 0, 1, 2, 40, 14, 6, 1, 2, 2, 2, 3, 1];
 
 const PLAIN: [usize; 14] = [24, 8, 1, 8, 3, 3, 2, 3, 3, 3, 3, 1, 1, 4];
 const NAMES: [usize; 14] = [40, 2, 0, 5, 2, 2, 1, 1, 1, 1, 1, 0, 0, 3];
 const SCOPES: [usize; 14] = [20, 3, 1, 6, 16, 16, 14, 3, 3, 4, 3, 1, 1, 5];
-const LAMBDAS: [usize; 14] = [12, 2, 1, 5, 30, 3, 2, 3, 3, 3, 2, 1, 1, 2];
 const KEYS: [usize; 14] = [8, 10, 1, 3, 1, 1, 4, 3, 4, 40, 3, 1, 1, 2];
 const TYPES: [usize; 14] = [10, 4, 1, 8, 3, 2, 2, 2, 3, 3, 3, 22, 22, 3];
 const EFFECT: [usize; 14] = [6, 14, 8, 2, 8, 1, 1, 14, 14, 14, 14, 1, 1, 2];
@@ -78,7 +74,7 @@ impl Style {
         };
         let nest = if r.percent(6) { r.range(4, 9) } else { 0 };
         let (names, loose) = (names(r), r.percent(30));
-        Style { statements, expressions, names, loose, nest, floats: false, dialect: false, profile: false }
+        Style { statements, expressions, names, loose, nest, floats: false, dialect: false }
     }
 
     /// Mostly dicts, their keys mostly numbers.
@@ -96,19 +92,6 @@ impl Style {
         if r.percent(75) {
             style.names.truncate(4);
             style.statements = EXPORTS;
-        }
-        style
-    }
-
-    /// Mostly few names, lambdas, and statements in places of every sort.
-    pub fn profile(self, r: &mut Random) -> Style {
-        let mut style = Style { profile: true, loose: r.percent(85), ..self };
-        if r.percent(75) {
-            style.names.truncate(r.range(1, 3));
-            style.statements = STRAYS;
-        }
-        if r.percent(60) {
-            style.expressions = LAMBDAS;
         }
         style
     }

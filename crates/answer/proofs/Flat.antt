@@ -96,34 +96,24 @@ module _ {A : Type 0} (g : Forest → List A) (G : Head → Forest → List A) (
         (ap (λ (l : List A). F (node_head t i) (forest_of t (i + 1) (i + size_at t i)) ++ l) (sym (split (kids p lt) (rest p lt) (omega arith) (ended p lt))))
 
 -- A walk's loop: what is written so far, with what is still left to list, comes to the whole list.
-pub record Gone (p₀ : Page) (all : List Rec) (p : Page) (left : List Rec) : Type 0 where
-  pub long : length p.out ≡ length p₀.out
-  pub yet : writes p left ≡ writes p₀ all
-
-pub gone : (p : Page) (all : List Rec) → Gone p all p all
-gone p all = record { long = refl; yet = refl }
-
-module _ {p₀ p : Page} {all zs : List Rec} (g : Gone p₀ all p zs) where
-  pub gone_on : (xs ys : List Rec) (q : Page) → q ≡ writes p xs → zs ≡ xs ++ ys → Gone p₀ all q ys
-  gone_on xs ys q w e =
-      record {
-        long = ap (λ (p : Page). length p.out) w ∙ writes_length p xs ∙ g.long;
-        yet = stepped p xs ys w e ∙ g.yet;
-      }
-
-  pub gone_end : zs ≡ [] → p ≡ writes p₀ all
-  gone_end e = sym (writes_none p) ∙ (rw e at g.yet)
-
--- the same with the counts of a sheet
-abbrev pub Going : List ℕ → Sheet → List Rec → List ℕ → Sheet → List Rec → Type 0
-Going o₀ s₀ all o s left = Gone (page o₀ s₀) all (page o s) left
+pub record Going (o₀ : List ℕ) (s₀ : Sheet) (all : List Rec) (o : List ℕ) (s : Sheet) (left : List Rec) : Type 0 where
+  pub long : length o ≡ length o₀
+  pub yet : writes (page o s) left ≡ writes (page o₀ s₀) all
 
 pub going : (o : List ℕ) (s : Sheet) (all : List Rec) → Going o s all o s all
-going o s all = gone (page o s) all
+going o s all = record { long = refl; yet = refl }
 
-module _ {p₀ p : Page} {all zs : List Rec} (g : Gone p₀ all p zs) where
-  pub going_on : (xs ys : List Rec) (o : List ℕ) (s : Sheet) → page o s ≡ writes p xs → zs ≡ xs ++ ys → Gone p₀ all (page o s) ys
-  going_on xs ys o s w e = gone_on g xs ys (page o s) w e
+pub going_on : {o₀ : List ℕ} {s₀ : Sheet} {all : List Rec} {o : List ℕ} {s : Sheet} {zs : List Rec} → Going o₀ s₀ all o s zs
+    → (xs ys : List Rec) (o' : List ℕ) (s' : Sheet) → page o' s' ≡ writes (page o s) xs → zs ≡ xs ++ ys → Going o₀ s₀ all o' s' ys
+going_on {o₀} {s₀} {all} {o} {s} {zs} g xs ys o' s' w e =
+    record {
+      long = ap (λ (p : Page). length p.out) w ∙ writes_length (page o s) xs ∙ g.long;
+      yet = stepped (page o s) xs ys w e ∙ g.yet;
+    }
+
+pub going_end : {o₀ : List ℕ} {s₀ : Sheet} {all : List Rec} {o : List ℕ} {s : Sheet} {zs : List Rec} → Going o₀ s₀ all o s zs
+    → zs ≡ [] → page o s ≡ writes (page o₀ s₀) all
+going_end {o₀} {s₀} {all} {o} {s} g e = sym (writes_none (page o s)) ∙ (rw e at g.yet)
 
 -- one walk after another
 pub walked_both : (p : Page) (xs ys : List Rec) {q r : Page} → q ≡ writes p xs → r ≡ writes q ys → r ≡ writes p (xs ++ ys)

@@ -12,8 +12,7 @@ use Rattle.rules.specs.declared.Refusal.TheVariants.{AnswerRoom}
 use Rattle.rules.specs.declared.Outcome.TheVariants.{Listed, Refused}
 use Rattle.rules.specs.declared.Answer.{Answer}
 use Rattle.rules.specs.Record.{Rec, width}
-use Rattle.rules.specs.Joined.{raise_all}
-use Rattle.rules.specs.Outcome.{all_zero}
+use Rattle.rules.specs.Joined.{no_tally, raise_all}
 use Rattle.tree.specs.Judge.{judged}
 use Rattle.tree.specs.Forest.{Forest, none, node, tree_of}
 use Rattle.tree.specs.code.Shape.{count}
@@ -35,13 +34,13 @@ no_front (x ∷ e) o h = absurd (omega arith)
 
 -- a file that is refused by 1 to 9
 pub unfit_done : (t : List ℕ) (why : tree.Refusal) (rs : List Rec) (o y : List ℕ) (a : Answer) → judged t ≡ Unfit why
-    → a.outcome ≡ Refused (refusal_of (judged t)) → a.tally ≡ all_zero y
+    → a.outcome ≡ Refused (refusal_of (judged t)) → a.tally ≡ no_tally
     → ◌≡◌ {A = Done} (record { answer = a; room = o }) (done rs t o y)
 unfolding refusal_of
 unfit_done t why rs o y a e p q = rw (done_unfit rs t o y e, answer_same a (rw e at p) q)
 
 pub unfit_with_work : (t : List ℕ) (why : tree.Refusal) (rs : List Rec) (w o y : List ℕ) (a : Answer) → judged t ≡ Unfit why
-    → a.outcome ≡ Refused (refusal_of (judged t)) → a.tally ≡ all_zero y
+    → a.outcome ≡ Refused (refusal_of (judged t)) → a.tally ≡ no_tally
     → ◌≡◌ {A = DoneWithWork} (record { answer = a; room = o; work = w }) (done_with_work rs t w o y)
 unfolding refusal_of
 unfit_with_work t why rs w o y a e p q = rw (work_unfit rs t w o y e, answer_same a (rw e at p) q)
@@ -55,7 +54,7 @@ module _ (t : List ℕ) (f : Facts) (valid : judged t ≡ Valid f) (rs : List Re
       ∙ writes_count (page o₁ s) rs (omega arith)
       ∙ omega arith
 
-  pub short_done : (a : Answer) → length o / width < c.count → a.outcome ≡ Refused (AnswerRoom c.count) → a.tally ≡ all_zero y
+  pub short_done : (a : Answer) → length o / width < c.count → a.outcome ≡ Refused (AnswerRoom c.count) → a.tally ≡ no_tally
       → ◌≡◌ {A = Done} (record { answer = a; room = o }) (done rs t o y)
   short_done a h p q =
       let k = counted in

@@ -53,7 +53,3 @@ rec_from w =
       number = w.number;
       number2 = w.number2;
     }
-
--- a record of a node's own span and of no value
-abbrev pub plain : ℕ → ℕ → Note
-plain c i = record { code = c; at = i; value = Nowhere; second = Nowhere; third = Nowhere }

@@ -31,7 +31,3 @@ writes p (r ∷ rs) = writes (write p r) rs
 -- the lent words with the counts of a sheet
 abbrev pub page : List ℕ → Sheet → Page
 page o s = record { out = o; count = s.count; tally = s.tally }
-
--- the same of a count of records alone
-abbrev pub untallied : List ℕ → ℕ → Page
-untallied o n = record { out = o; count = n; tally = [] }

@@ -5,12 +5,12 @@
 ghost use Rattle.std.specs.Prelude.{◌≡◌, ◌<◌};
 ghost use Rattle.tree.specs.Forest.{number_at, node_head};
 ghost use Rattle.rules.specs.Record.{plainly};
-ghost use Rattle.rules.specs.Joined.{one_more, raise, no_tally, no_full_tally};
-ghost use Rattle.answer.specs.Page.{stored, write, page, untallied};
-ghost use Rattle.answer.specs.Note.{span_of, span_from, value_of, node_of, rec_of, rec_from, plain};
+ghost use Rattle.rules.specs.Joined.{one_more, raise, no_tally};
+ghost use Rattle.answer.specs.Page.{stored, write, page};
+ghost use Rattle.answer.specs.Note.{span_of, span_from, value_of, node_of, rec_of, rec_from};
 ghost use Rattle.answer.specs.Refuse.{refusal_of};
 
-use rules::{ALL_CODES, Answer, CODES, FullAnswer, Outcome, Refusal, WIDTH};
+use rules::{Answer, CODES, Outcome, Refusal, WIDTH};
 use tree::bytes::{begin_at, end_at, value_at};
 use tree::{Judged, Likeness};
 
@@ -69,8 +69,7 @@ fn up(x: usize) -> usize
     x
 }
 
-// The count of one code raised, where there is one.
-pub fn raise_at(counts: &mut [usize], code: usize)
+fn raise_at(counts: &mut [usize], code: usize)
     ensures { counts.new ≡ raise code counts.old }
 {
     if code < 1 {
@@ -188,44 +187,36 @@ fn emit(out: &mut [u32], n: usize, r: Words)
     }
 }
 
-// One more record after n others: stored where there is room for it, and counted.
-pub fn store(t: &[u8], out: &mut [u32], n: usize, note: Note) -> usize
-    ensures { untallied out.new result ≡ write (untallied out.old n) (rec_of t.now note) }
-{
-    emit(out, n, words_of(t, note));
-    up(n)
-}
-
-// The same, and its code's count raised.
+// One more record: stored where there is room for it, and counted.
 pub fn put(t: &[u8], out: &mut [u32], s: Sheet, n: Note) -> Sheet
     ensures { page out.new result ≡ write (page out.old s) (rec_of t.now n) }
 {
     let code = n.code;
     let count = s.count;
     let tally = s.tally;
+    emit(out, count, words_of(t, n));
     Sheet {
-        count: store(t, out, count, n),
+        count: up(count),
         tally: raised(tally, code),
     }
 }
 
 // A record of a node's own span and of no value.
-pub fn plain(code: u32, i: usize) -> Note
-    ensures { result ≡ plain code i }
-{
-    Note {
-        code,
-        at: i,
-        value: Place::Nowhere,
-        second: Place::Nowhere,
-        third: Place::Nowhere,
-    }
-}
-
 pub fn put_plainly(t: &[u8], out: &mut [u32], s: Sheet, code: u32, i: usize) -> Sheet
     ensures { page out.new result ≡ write (page out.old s) (plainly code (node_head t.now i)) }
 {
-    put(t, out, s, plain(code, i))
+    put(
+        t,
+        out,
+        s,
+        Note {
+            code,
+            at: i,
+            value: Place::Nowhere,
+            second: Place::Nowhere,
+            third: Place::Nowhere,
+        },
+    )
 }
 
 // Nothing written yet, with the counts of the passes before.
@@ -241,17 +232,6 @@ pub fn refused(why: Refusal) -> Answer
 {
     let zero = [0; CODES];
     Answer {
-        outcome: Outcome::Refused(why),
-        tally: zero,
-    }
-}
-
-// The same with the counts of all codes.
-pub fn refused_in_full(why: Refusal) -> FullAnswer
-    ensures { (result.outcome ≡ Outcome.Refused why) × (result.tally ≡ no_full_tally) }
-{
-    let zero = [0; ALL_CODES];
-    FullAnswer {
         outcome: Outcome::Refused(why),
         tally: zero,
     }

@@ -52,7 +52,7 @@ fn named(s: &[u8]) -> ShortName
 }
 
 // One after another; that of code c begins at the c-th place, and 0 has none.
-const NAMES: [u8; 357] = *b"unused-load\
+const NAMES: [u8; 278] = *b"unused-load\
     unused-assign\
     unused-argument\
     using-unassigned\
@@ -68,16 +68,10 @@ const NAMES: [u8; 357] = *b"unused-load\
     incompatible-type-check\
     duplicate-top-level-assign\
     duplicate-key\
-    ident-as-statement\
-    top-level-flow\
-    return-outside-def\
-    jump-outside-loop\
-    nested-load\
-    duplicate-parameter";
+    ident-as-statement";
 
-const NAMES_AT: [usize; 24] = [
-    0, 0, 11, 24, 39, 55, 70, 91, 116, 130, 141, 157, 175, 189, 198, 221, 247, 260, 278, 292, 310,
-    327, 338, 357,
+const NAMES_AT: [usize; 19] = [
+    0, 0, 11, 24, 39, 55, 70, 91, 116, 130, 141, 157, 175, 189, 198, 221, 247, 260, 278,
 ];
 
 // No number above the last code is one: it has no name.

@@ -2,8 +2,6 @@
 use Rattle.std.specs.Prelude.{ℕ, ◌/◌, ◌%◌, Bool, true, false, ◌&&◌, ◌||◌, not, eqb, ltb}
 use Rattle.tree.specs.declared.Mode.{Mode}
 use Rattle.tree.specs.declared.Mode.TheVariants.{Ordinary, Strict}
-use Rattle.rules.specs.declared.Profile.{Profile}
-use Rattle.rules.specs.declared.Profile.TheVariants.{Off, On}
 
 abbrev pub asks : ℕ → ℕ → Bool
 asks choices bit = eqb (choices / bit % 2) 1
@@ -15,14 +13,6 @@ strict_if false = Ordinary
 
 abbrev pub mode_of : ℕ → Mode
 mode_of choices = strict_if (asks choices 1)
-
--- bit 2
-abbrev pub profile_if : Bool → Profile
-profile_if true = On
-profile_if false = Off
-
-abbrev pub profile_of : ℕ → Profile
-profile_of choices = profile_if (asks choices 4)
 
 -- bits 1, 14 and 15
 abbrev pub log_asked : ℕ → Bool
@@ -38,6 +28,6 @@ rooms_follow choices = asks choices 32768
 abbrev pub second_follows : ℕ → Bool
 second_follows choices = asks choices 8 || asks choices 32
 
--- these five and no other, and a log has no line of counts
+-- these four and no other, and a log has no line of counts
 abbrev pub known : ℕ → Bool
-known choices = ltb (choices % 16384) 8 && (ltb (choices / 16384) 4 && not (log_asked choices && tally_asked choices))
+known choices = ltb (choices % 16384) 4 && (ltb (choices / 16384) 4 && not (log_asked choices && tally_asked choices))

@@ -2,15 +2,15 @@
 ghost use Rattle.std.specs.Prelude.{◌+◌, ◌≤◌, min, ◌≡◌, length};
 ghost use Rattle.tree.specs.code.Numbers.{Starts};
 ghost use Rattle.sarif_log.specs.Pieces.{piece_most};
-ghost use Rattle.desk.specs.Choices.{mode_of, profile_of};
+ghost use Rattle.desk.specs.Choices.{mode_of};
 ghost use Rattle.desk.specs.Handed.{list_answer, refusal_answer, log_piece, Lists, Holds};
 
 use crate::reading::{ALL, Rooms};
 use libc::{STDERR_FILENO, STDOUT_FILENO};
-use rules::{ALL_CODES, Outcome, Refusal, WIDTH};
+use rules::{CODES, Outcome, Refusal, WIDTH};
 
-// The words of 11,264 records: no valid tree has more.
-pub const ANSWER: usize = WIDTH * 11264;
+// The words of 10,240 records: no valid tree has more.
+pub const ANSWER: usize = WIDTH * 10240;
 
 // Bytes for every text of a call with that much answer room, or every piece of a log, and for the last line.
 pub const PAGE: usize = 11 * ANSWER + sarif_log::PIECE;
@@ -66,16 +66,7 @@ fn list(t: &[u8], choices: usize, work: &mut [u16], answer: &mut [u32], page: &m
     requires { Holds page.old answer.old }
 {
     let mode = crate::choices::mode(choices);
-    let chosen = crate::choices::profile(choices);
-    let a = text::text(
-        t,
-        mode,
-        chosen,
-        work,
-        answer,
-        crate::choices::tally(choices),
-        page,
-    );
+    let a = text::text(t, mode, work, answer, crate::choices::tally(choices), page);
     let b = page::raw(page, a, b"--\n");
     hand_list(&page[..b], choices, t, work, answer)
 }
@@ -87,10 +78,10 @@ fn piece(
     starts: &[usize; 512],
     list: &[u32],
     n: usize,
-    tally: [usize; ALL_CODES],
+    tally: [usize; CODES],
     k: usize,
 ) -> bool
-    requires { Lists (profile_of choices) (mode_of choices) t.now list.now n tally × Starts t.now starts.now × (k ≤ n + 1) × (piece_most ≤ length page.old) }
+    requires { Lists (mode_of choices) t.now list.now n tally × Starts t.now starts.now × (k ≤ n + 1) × (piece_most ≤ length page.old) }
 {
     let got = sarif_log::piece(page, t, starts, list, n, tally, k);
     hand_piece(&page[..got], choices, t, k)
@@ -104,9 +95,9 @@ fn pieces(
     starts: &[usize; 512],
     list: &[u32],
     n: usize,
-    tally: [usize; ALL_CODES],
+    tally: [usize; CODES],
 ) -> bool
-    requires { Lists (profile_of choices) (mode_of choices) t.now list.now n tally × Starts t.now starts.now × (piece_most ≤ length page.old) }
+    requires { Lists (mode_of choices) t.now list.now n tally × Starts t.now starts.now × (piece_most ≤ length page.old) }
 {
     let mut k = 0;
     while k <= n + 1 {
@@ -126,10 +117,10 @@ fn measured(
     starts: &[usize; 512],
     list: &[u32],
     n: usize,
-    tally: [usize; ALL_CODES],
+    tally: [usize; CODES],
     other: usize,
 ) -> bool
-    requires { Lists (profile_of choices) (mode_of choices) t.now list.now n tally × Starts t.now starts.now × (piece_most ≤ length page.old) }
+    requires { Lists (mode_of choices) t.now list.now n tally × Starts t.now starts.now × (piece_most ≤ length page.old) }
 {
     let needed = sarif_log::log(&mut page[..0], t, starts, list, n, tally);
     if other < needed {
@@ -145,10 +136,10 @@ fn logged(
     t: &[u8],
     list: &[u32],
     n: usize,
-    tally: [usize; ALL_CODES],
+    tally: [usize; CODES],
     other: usize,
 ) -> bool
-    requires { Lists (profile_of choices) (mode_of choices) t.now list.now n tally × (piece_most ≤ length page.old) }
+    requires { Lists (mode_of choices) t.now list.now n tally × (piece_most ≤ length page.old) }
 {
     let starts = tree::lookup::starts(t);
     if other < ALL {
@@ -167,8 +158,7 @@ fn log(
 ) -> bool
     requires { piece_most ≤ length page.old }
 {
-    let mode = crate::choices::mode(choices);
-    let a = lint::profiled(t, mode, crate::choices::profile(choices), work, answer);
+    let a = lint::lint(t, crate::choices::mode(choices), work, answer);
     let o = a.outcome;
     let counts = a.tally;
     match o {

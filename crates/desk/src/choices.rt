@@ -1,8 +1,7 @@
 // What a request asks for: a bit for each choice. docs/DESK.md has the table.
 ghost use Rattle.std.specs.Prelude.{◌≤◌, ◌≡◌};
-ghost use Rattle.desk.specs.Choices.{asks, mode_of, profile_of, log_asked, tally_asked, rooms_follow, second_follows, known};
+ghost use Rattle.desk.specs.Choices.{asks, mode_of, log_asked, tally_asked, rooms_follow, second_follows, known};
 
-use rules::Profile;
 use tree::Mode;
 
 fn asks(choices: usize, bit: usize) -> bool
@@ -19,15 +18,6 @@ pub fn mode(choices: usize) -> Mode
         return Mode::Strict;
     }
     Mode::Ordinary
-}
-
-pub fn profile(choices: usize) -> Profile
-    ensures { result ≡ profile_of choices }
-{
-    if asks(choices, 4) {
-        return Profile::On;
-    }
-    Profile::Off
 }
 
 pub fn log(choices: usize) -> bool
@@ -61,7 +51,7 @@ pub fn second(choices: usize) -> bool
 pub fn known(choices: usize) -> bool
     ensures { result ≡ known choices }
 {
-    if 8 <= choices % 16384 {
+    if 4 <= choices % 16384 {
         return false;
     }
     if 4 <= choices / 16384 {

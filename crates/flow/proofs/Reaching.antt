@@ -10,7 +10,7 @@ use Rattle.tree.specs.Bytes.{kind_at, size_at}
 use Rattle.tree.specs.Forest.{Forest, none, node, node_head, forest_of}
 use Rattle.tree.specs.code.Part.{Part, Subtree}
 use Rattle.tree.specs.code.Find.{child_of}
-use Rattle.tree.proofs.Laws.{ended, forest_none, forest_node, whole_at}
+use Rattle.tree.proofs.Laws.{ended, forest_none, forest_node}
 use Rattle.tree.proofs.Find.{child_ge, child_part}
 use Rattle.rules.specs.Record.{Rec, listed, plainly}
 use Rattle.rules.specs.Visit.{look}
@@ -19,11 +19,11 @@ use Rattle.rules.specs.Flow.{Reached, in_List, one_by_one, only, both, on_throug
 use Rattle.answer.specs.declared.Sheet.{Sheet}
 use Rattle.answer.specs.Page.{Page, write, writes, page}
 use Rattle.answer.proofs.Laws.{writes_none}
-use Rattle.answer.proofs.Flat.{Going, going_on, gone_end, walked_both}
+use Rattle.answer.proofs.Flat.{Going, going_on, going_end, walked_both}
 use Rattle.answer.proofs.ByRole.{there, absent}
 use Rattle.flow.specs.Walks.{left, Walked}
 use Rattle.flow.proofs.Forms.{reach_other}
-use Rattle.flow.proofs.Steps.{wrote_none, wrote_one}
+use Rattle.flow.proofs.Steps.{whole_at, wrote_none, wrote_one}
 
 -- ---- what a walk writes and hands back
 
@@ -157,7 +157,7 @@ module _ (F : ℕ → Bool) where
   pub each_done : (t : List ℕ) (i j e : ℕ) {o₀ o : List ℕ} {s₀ s : Sheet} → e ≤ j
       → Going o₀ s₀ (reached F one_by_one (forest_of t i e)).recs o s (reached F one_by_one (forest_of t j e)).recs
       → Walked o₀ o s₀ s false (reached F one_by_one (forest_of t i e))
-  each_done t i j e h g = record { written = gone_end g (each_past t j e h); stops = each_stops (forest_of t i e) }
+  each_done t i j e h g = record { written = going_end g (each_past t j e h); stops = each_stops (forest_of t i e) }
 
   pub list_done : (t : List ℕ) (i j e : ℕ) {o₀ o o' : List ℕ} {s₀ s s' : Sheet} (b : Bool)
       → Going o₀ s₀ (reached F in_List (forest_of t i e)).recs o s (left F b (forest_of t j e)).recs
@@ -170,7 +170,7 @@ module _ (F : ℕ → Bool) where
   list_done t i j e {o₀} {o} {o'} {s₀} {s} {s'} false g q h w =
       let z = forest_none t j e (ltb-false j e h) in
       record {
-        written = w ∙ writes_none (page o s) ∙ gone_end g (ap (λ (f : Forest). (reached F in_List f).recs) z);
+        written = w ∙ writes_none (page o s) ∙ going_end g (ap (λ (f : Forest). (reached F in_List f).recs) z);
         stops = sym (ap (λ (f : Forest). (reached F in_List f).stops) z) ∙ q;
       }
 

@@ -43,6 +43,9 @@ tidy_kids {t} {i} w = tidy_later w.tidy (omega arith)
 pub tidy_whole : {t : List ℕ} {i e : ℕ} → Tidy t i e → i < e → Subtree t i
 tidy_whole p lt = record { part = first p.part lt; some = sized p.part lt }
 
+pub whole_kids : {t : List ℕ} {i : ℕ} → Subtree t i → Part t (i + 1) (i + size_at t i)
+whole_kids w = kids w.part (omega (arith, w.some))
+
 pub def_shaped : {t : List ℕ} {i : ℕ} → DefAt t i → Shaped t i
 def_shaped {t} {i} d = d.at.tidy.defs i (omega arith) (omega (arith, d.at.some)) d.kind
 

@@ -11,7 +11,7 @@ use Rattle.tree.specs.Bytes.{kind_at, size_at, value_at, pick}
 use Rattle.tree.specs.Forest.{Spot, Head, Forest, none, node, node_spot, node_head, forest_of}
 use Rattle.tree.specs.code.Part.{Part, Subtree}
 use Rattle.tree.specs.code.Find.{child_of}
-use Rattle.tree.proofs.Laws.{sized, ended, first, whole_kids, kids, rest, forest_none, forest_node}
+use Rattle.tree.proofs.Laws.{sized, ended, first, kids, rest, forest_none, forest_node}
 use Rattle.rules.specs.Record.{Rec, plainly}
 use Rattle.rules.specs.Visit.{look}
 use Rattle.rules.specs.Flow.{Effect, some_effect, none_effect, by_children, effects, effect, effect_part, effect_walk, Loads, loads_part, loads, string_stated}
@@ -27,6 +27,12 @@ use Rattle.flow.specs.Returns.{Checked}
 use Rattle.flow.specs.Walks.{Stated, is_text, acts_by, acting, onto, inside, idle_at, past_of, into_of, load_at}
 use Rattle.flow.proofs.Beside.{beside, below_split}
 use Rattle.flow.proofs.Forms.{effect_other, loads_other, loads_end, loads_load, loads_silent}
+
+pub whole_at : {t : List ℕ} {i e : ℕ} → Part t i e → i < e → Subtree t i
+whole_at p lt = record { part = first p lt; some = sized p lt }
+
+pub below : {t : List ℕ} {i : ℕ} → Subtree t i → Part t (i + 1) (i + size_at t i)
+below w = kids w.part (omega (arith, w.some))
 
 -- nothing is written
 pub wrote_none : (p : Page) {rs : List Rec} → rs ≡ [] → p ≡ writes p rs
@@ -180,7 +186,7 @@ module _ (strings : List Bool) (t : List ℕ) (i : ℕ) where
   unfolding node_head
   idle_put p w k e h c y lt q =
       wrote_one p (plainly 13 (node_head t c)) q
-      (rw (k, sym e ∙ h) (ap (λ (s : Head). plainly 13 s ∷ []) (head_there 4 (whole_kids w) (omega (arith, w.some)) (rw y at lt) ∙ ap (node_head t) (sym y))))
+      (rw (k, sym e ∙ h) (ap (λ (s : Head). plainly 13 s ∷ []) (head_there 4 (below w) (omega (arith, w.some)) (rw y at lt) ∙ ap (node_head t) (sym y))))
 
 module _ (strings : List Bool) where
   abbrev walk : Forest → List Rec

@@ -9,7 +9,7 @@ use Rattle.tree.specs.Bytes.{kind_at, size_at}
 use Rattle.tree.specs.Forest.{Head, Forest, node, node_head, forest_of}
 use Rattle.tree.specs.code.Part.{Part, Subtree}
 use Rattle.tree.specs.code.Find.{child_of}
-use Rattle.tree.proofs.Laws.{later, forest_none, forest_node, whole_at, whole_kids}
+use Rattle.tree.proofs.Laws.{later, forest_none, forest_node}
 use Rattle.rules.specs.Record.{Rec, listed, plainly}
 use Rattle.rules.specs.Visit.{look, has}
 use Rattle.rules.specs.Flow.{tail, tail_part, redundant_part, redundant_walk, below_root}
@@ -19,7 +19,7 @@ use Rattle.answer.proofs.ByRole.{there, absent}
 use Rattle.flow.specs.Returns.{Last}
 use Rattle.flow.proofs.LastLaws.{last_there, last_absent}
 use Rattle.flow.proofs.Forms.{tail_other, redundant_other}
-use Rattle.flow.proofs.Steps.{wrote_none, wrote_one}
+use Rattle.flow.proofs.Steps.{whole_at, below, wrote_none, wrote_one}
 
 pub has_there : (r : ℕ) {t : List ℕ} {i e : ℕ} → Part t i e → i ≤ e → child_of t r i e < e → has r (forest_of t i e) ≡ true
 has_there r p h lt = there r (has r) (λ g k. true) false refl (λ g k s b. rw b) (λ g k s b. rw b) p h lt
@@ -41,7 +41,7 @@ module _ (loops : Bool) (t : List ℕ) (i : ℕ) where
 
   pub bare_valued : (p : Page) {e c : ℕ} → Subtree t i → e ≡ i + size_at t i → c ≡ child_of t 4 (i + 1) e → c < e → p ≡ writes p bare_here
   bare_valued p {e} {c} w a b lt =
-      let z : not (has 4 under) ≡ false = rw (has_there 4 (whole_kids w) (omega (arith, w.some)) (rw (b, a) at lt)) in
+      let z : not (has 4 under) ≡ false = rw (has_there 4 (below w) (omega (arith, w.some)) (rw (b, a) at lt)) in
       wrote_none p (rw z (never (not loops)))
     where
       never : (b : Bool) → listed (b && false) (plainly 10 (node_head t i) ∷ []) [] ≡ []
@@ -51,7 +51,7 @@ module _ (loops : Bool) (t : List ℕ) (i : ℕ) where
   pub bare_put : (p : Page) {q : Page} {e c : ℕ} → Subtree t i → loops ≡ false → e ≡ i + size_at t i → c ≡ child_of t 4 (i + 1) e → e ≤ c
       → q ≡ write p (plainly 10 (node_head t i)) → q ≡ writes p bare_here
   bare_put p {q} {e} {c} w l a b h r =
-      wrote_one p (plainly 10 (node_head t i)) r (rw (l, has_absent 4 (whole_kids w) (rw (b, a) at h)))
+      wrote_one p (plainly 10 (node_head t i)) r (rw (l, has_absent 4 (below w) (rw (b, a) at h)))
 
   -- the statement at node i, last
   abbrev pub tail_here : List Rec
@@ -128,7 +128,7 @@ redundant_next p lt = next redundant_walk Below refl below_cons (λ h k. redunda
 pub redundant_past : (t : List ℕ) (i n : ℕ) → n ≤ i → redundant_walk (forest_of t i n) ≡ []
 redundant_past t i n h = past redundant_walk Below refl below_cons t i n h
 
--- whole-kids the root stands all the rest
+-- below the root stands all the rest
 pub below_all : {t : List ℕ} {n : ℕ} → Part t 0 n → size_at t 0 ≡ n → redundant_walk (forest_of t 1 n) ≡ redundant_walk (below_root (forest_of t 0 n))
 below_all {t} {n} p z = go (dec_lt 0 n)
   where

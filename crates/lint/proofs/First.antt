@@ -11,7 +11,8 @@ use lib.Seq.{length-take-le, drop-append-le}
 use borrow.Rule.Slice.PartMut.{put_mid}
 use Rattle.tree.specs.declared.Facts.{Facts}
 use Rattle.rules.specs.Record.{Rec, width, all_words}
-use Rattle.rules.specs.Outcome.{work_words, all_zero, cleared}
+use Rattle.rules.specs.Joined.{no_tally}
+use Rattle.rules.specs.Outcome.{work_words, cleared}
 use Rattle.rules.specs.Calls.{Done, DoneWithWork, done, done_with_work}
 use Rattle.rules.specs.Afterwards.{Gives}
 use Rattle.rules.specs.declared.Refusal.{Refusal}
@@ -87,7 +88,7 @@ module _ {t : List ℕ} {facts : Facts} (s : JudgedValid t facts) (ns rs : List 
 
     -- THE REFUSALS: where not all is well, the joined call's answer and what it leaves
     pub refused_done : (x : Answer) (z : List ℕ) → (work_words ≤ length w → width * length (ns ++ rs) ≤ length o → ⊥)
-        → x.outcome ≡ Refused (refusal_with a.outcome (length rs)) → x.tally ≡ all_zero z
+        → x.outcome ≡ Refused (refusal_with a.outcome (length rs)) → x.tally ≡ no_tally
         → Gives (done_with_work (ns ++ rs) t w o z) x (e ++ drop (width * k) o) v
     refused_done x z unwell p q =
         go (short_or_not (length w) work_words) (short_or_not (length part) (width * length ns)) (short_or_not (length o) (width * length (ns ++ rs)))
@@ -98,7 +99,7 @@ module _ {t : List ℕ} {facts : Facts} (s : JudgedValid t facts) (ns rs : List 
         -- names left its part as it was: whatever it answered, the joined call is refused with u
         refused_with : {b : Answer} {w₁ : List ℕ} (u : Refusal)
             → done_with_work ns t w part y ≡ record { answer = b; room = part; work = w₁ }
-            → done_with_work (ns ++ rs) t w o z ≡ record { answer = refused u z; room = o; work = w₁ } → refusal_with b.outcome (length rs) ≡ u
+            → done_with_work (ns ++ rs) t w o z ≡ record { answer = refused u; room = o; work = w₁ } → refusal_with b.outcome (length rs) ≡ u
             → Gives (done_with_work (ns ++ rs) t w o z) x (e ++ drop (width * k) o) v
         refused_with u i j f =
             let d = gives ∙ i in

@@ -1,5 +1,5 @@
 -- What the functions below the joined call require and promise. Assumes nothing.
-use Rattle.std.specs.Prelude.{ℕ, ◌+◌, ◌*◌, ◌≤◌, ◌≡◌, List, [], ◌++◌, length}
+use Rattle.std.specs.Prelude.{ℕ, ◌+◌, ◌*◌, ◌≤◌, ◌≡◌, List, ◌++◌, length}
 use Rattle.tree.specs.Judge.{judged}
 use Rattle.tree.specs.declared.Facts.{Facts}
 use Rattle.tree.specs.declared.Judged.TheVariants.{Valid}
@@ -8,9 +8,6 @@ use Rattle.rules.specs.Record.{Rec, width}
 use Rattle.rules.specs.Flow.{flow_list}
 use Rattle.rules.specs.Incompatible.{incompatible_list}
 use Rattle.rules.specs.Dubious.{dubious_list}
-use Rattle.rules.specs.Profile.{profile_list}
-use Rattle.rules.specs.declared.Profile.{Profile}
-use Rattle.rules.specs.declared.Profile.TheVariants.{Off, On}
 use Rattle.rules.specs.declared.Refusal.{Refusal}
 use Rattle.rules.specs.declared.Refusal.TheVariants.{Tree, WorkRoom, AnswerRoom, OtherRoom}
 use Rattle.rules.specs.declared.Outcome.{Outcome}
@@ -38,11 +35,6 @@ after_flow mode t = incompatible_list t ++ dubious_list mode t
 
 abbrev pub after_names : Mode → List ℕ → List Rec
 after_names mode t = flow_list t ++ after_flow mode t
-
--- the records of the profile's pass, where it is chosen
-abbrev pub last_list : Profile → List ℕ → List Rec
-last_list Off t = []
-last_list On t = profile_list t
 
 -- a file without refusal 1 to 9, f its facts
 pub record JudgedValid (t : List ℕ) (f : Facts) : Type 0 where

@@ -1,5 +1,4 @@
--- What the header says is enough: room for 10,240 records, with the profile for 11,264, and YUDRONKHA_LOG_BYTES or
--- YUDRONKHA_PROFILE_LOG_BYTES of output for a log of so many. Assumes nothing.
+-- What the header says is enough: room for 10,240 records, and YUDRONKHA_LOG_BYTES of output for a log of so many. Assumes nothing.
 use Prim.Native.Nat.{ℕ, ◌+◌, ◌*◌, ◌≤◌, ◌<◌}
 use native.Mathlib.Omega.{arith}
 use mathlib.Core.Path.{◌≡◌, ap, ◌∙◌}
@@ -11,54 +10,35 @@ use Rattle.tree.specs.declared.Mode.{Mode}
 use Rattle.tree.specs.declared.Facts.{Facts}
 use Rattle.tree.specs.declared.Judged.TheVariants.{Valid}
 use Rattle.rules.specs.Record.{width, all_words, Each}
-use Rattle.rules.specs.Joined.{lint_list, profiled_list, no_tally, no_full_tally}
+use Rattle.rules.specs.Joined.{lint_list, no_tally}
 use Rattle.rules.specs.Outcome.{work_words, refusal}
 use Rattle.rules.specs.Calls.{DoneWithWork}
-use Rattle.rules.specs.declared.Profile.{Profile}
-use Rattle.rules.specs.declared.Profile.TheVariants.{Off, On}
 use Rattle.rules.specs.declared.Refusal.{Refusal}
 use Rattle.rules.proofs.Answered.{fit, work_enough, room_enough, other_enough, all_passed, work_listed}
-use Rattle.rules.proofs.Whole.{file_lint_few, file_profiled_few}
+use Rattle.rules.proofs.Whole.{file_lint_few}
 use Rattle.sarif_log.specs.Log.{log}
-use Rattle.sarif_log.proofs.Size.{file_log_size, file_full_log_size}
+use Rattle.sarif_log.proofs.Size.{file_log_size}
 use Rattle.sarif.specs.Calls.{checks, answer_by, sarif_of}
 use Rattle.lint_c.specs.Face.{number_of, called, as_listed, sarif_called}
 
--- YUDRONKHA_LOG_BYTES, YUDRONKHA_PROFILE_LOG_BYTES
+-- YUDRONKHA_LOG_BYTES
 abbrev pub log_bytes : ℕ → ℕ
 log_bytes k = 1617 + 2222 * k
 
-abbrev pub profile_log_bytes : ℕ → ℕ
-profile_log_bytes k = 2026 + 2222 * k
-
 module _ (mode : Mode) (t work room report : List ℕ) (f : Facts) (v : judged t ≡ Valid f) (w : work_words ≤ length work) where
-  pub ample : width * 10240 ≤ length room → (called Off mode t work room report).number ≡ 0
+  pub ample : width * 10240 ≤ length room → (called mode t work room report).number ≡ 0
   ample r =
       let few = file_lint_few t f v mode in
       ap (λ (d : DoneWithWork). number_of d.answer.outcome) (work_listed (lint_list mode t) t work room no_tally v w (omega arith))
 
-  pub ample_profile : width * 11264 ≤ length room → (called On mode t work room report).number ≡ 0
-  ample_profile r =
-      let few = file_profiled_few t f v On mode in
-      ap (λ (d : DoneWithWork). number_of d.answer.outcome) (work_listed (profiled_list On mode t) t work room no_full_tally v w (omega arith))
-
-  -- room for the list and the log
-  with_room : (chosen : Profile) (output : List ℕ) → width * length (profiled_list chosen mode t) ≤ length room
-      → length (log t (profiled_list chosen mode t)) ≤ length output → (sarif_called chosen mode t work room output report).number ≡ 0
-  unfolding sarif_of answer_by
-  with_room chosen output r o =
-      let rs = profiled_list chosen mode t in
-      let z : refusal (checks rs t work room output) ≡ none
-      = fit _ v ∙ (work_enough _ (length work) w ∙ (room_enough _ (length rs) (length room) r
-      ∙ (other_enough _ (length (log t rs)) (length output) o ∙ all_passed))) in
-      ap (λ (why : Option Refusal). number_of (as_listed (answer_by why rs (length (log t rs))).outcome)) z
-
   -- a list of at most k records whose words are below 2^32, as every u32 is
   pub ample_log : (k : ℕ) (output : List ℕ) → length (lint_list mode t) ≤ k → Each (λ x. x < 4294967296) (all_words (lint_list mode t))
-      → width * k ≤ length room → log_bytes k ≤ length output → (sarif_called Off mode t work room output report).number ≡ 0
-  ample_log k output few u r o = let s = file_log_size t f v mode u in with_room Off output (omega arith) (omega arith)
-
-  pub ample_profile_log : (k : ℕ) (output : List ℕ) → length (profiled_list On mode t) ≤ k
-      → Each (λ x. x < 4294967296) (all_words (profiled_list On mode t)) → width * k ≤ length room → profile_log_bytes k ≤ length output
-      → (sarif_called On mode t work room output report).number ≡ 0
-  ample_profile_log k output few u r o = let s = file_full_log_size t f v On mode u in with_room On output (omega arith) (omega arith)
+      → width * k ≤ length room → log_bytes k ≤ length output → (sarif_called mode t work room output report).number ≡ 0
+  unfolding sarif_of answer_by
+  ample_log k output few u r o =
+      let rs = lint_list mode t in
+      let s = file_log_size t f v mode u in
+      let z : refusal (checks rs t work room output) ≡ none
+      = fit _ v ∙ (work_enough _ (length work) w ∙ (room_enough _ (length rs) (length room) (omega arith)
+      ∙ (other_enough _ (length (log t rs)) (length output) (omega arith) ∙ all_passed))) in
+      ap (λ (why : Option Refusal). number_of (as_listed (answer_by why rs (length (log t rs))).outcome)) z

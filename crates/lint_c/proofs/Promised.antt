@@ -2,7 +2,6 @@
 -- afterwards). Assumes nothing.
 use mathlib.Core.Path.{◌≡◌}
 use Rattle.tree.specs.declared.Mode.TheVariants.{Ordinary, Strict}
-use Rattle.rules.specs.declared.Profile.TheVariants.{Off, On}
 use Rattle.lint_c.specs.Face.{library_version, severity_number, Called, called, Named, short_named, SarifCalled, sarif_called}
 use Rattle.lint_c.proofs.yudronkha_version.Reads as version
 use Rattle.lint_c.proofs.yudronkha_severity.Reads as severity
@@ -11,10 +10,6 @@ use Rattle.lint_c.proofs.yudronkha_lint.Reads as ordinary
 use Rattle.lint_c.proofs.yudronkha_lint_strict.Reads as strict
 use Rattle.lint_c.proofs.yudronkha_sarif.Reads as sarif
 use Rattle.lint_c.proofs.yudronkha_sarif_strict.Reads as sarif-strict
-use Rattle.lint_c.proofs.yudronkha_lint_profile.Reads as profile
-use Rattle.lint_c.proofs.yudronkha_lint_profile_strict.Reads as profile-strict
-use Rattle.lint_c.proofs.yudronkha_sarif_profile.Reads as sarif-profile
-use Rattle.lint_c.proofs.yudronkha_sarif_profile_strict.Reads as sarif-profile-strict
 
 pub promised_version : (κs : _) (a : _) (r : _) (s : _) → version.Post κs a r s → r ≡ library_version
 promised_version κs a r s p = p
@@ -28,41 +23,20 @@ promised_name κs a r s p = p
 
 pub promised : (κs : _) (a : _) (r : _) (s : _) → ordinary.Post κs a r s
     → ◌≡◌ {A = Called} (record { number = r; work = s.1.0.now; room = s.1.1.0.now; report = s.1.1.1.0.now })
-    (called Off Ordinary a.0.now a.1.0.now a.1.1.0.now a.1.1.1.0.now)
+    (called Ordinary a.0.now a.1.0.now a.1.1.0.now a.1.1.1.0.now)
 promised κs a r s p = p
 
 pub promised_strict : (κs : _) (a : _) (r : _) (s : _) → strict.Post κs a r s
     → ◌≡◌ {A = Called} (record { number = r; work = s.1.0.now; room = s.1.1.0.now; report = s.1.1.1.0.now })
-    (called Off Strict a.0.now a.1.0.now a.1.1.0.now a.1.1.1.0.now)
+    (called Strict a.0.now a.1.0.now a.1.1.0.now a.1.1.1.0.now)
 promised_strict κs a r s p = p
 
 pub promised_sarif : (κs : _) (a : _) (r : _) (s : _) → sarif.Post κs a r s
     → ◌≡◌ {A = SarifCalled} (record { number = r; work = s.1.0.now; room = s.1.1.0.now; output = s.1.1.1.0.now; report = s.1.1.1.1.0.now })
-    (sarif_called Off Ordinary a.0.now a.1.0.now a.1.1.0.now a.1.1.1.0.now a.1.1.1.1.0.now)
+    (sarif_called Ordinary a.0.now a.1.0.now a.1.1.0.now a.1.1.1.0.now a.1.1.1.1.0.now)
 promised_sarif κs a r s p = p
 
 pub promised_sarif_strict : (κs : _) (a : _) (r : _) (s : _) → sarif-strict.Post κs a r s
     → ◌≡◌ {A = SarifCalled} (record { number = r; work = s.1.0.now; room = s.1.1.0.now; output = s.1.1.1.0.now; report = s.1.1.1.1.0.now })
-    (sarif_called Off Strict a.0.now a.1.0.now a.1.1.0.now a.1.1.1.0.now a.1.1.1.1.0.now)
+    (sarif_called Strict a.0.now a.1.0.now a.1.1.0.now a.1.1.1.0.now a.1.1.1.1.0.now)
 promised_sarif_strict κs a r s p = p
-
--- with the profile (02, §10)
-pub promised_profile : (κs : _) (a : _) (r : _) (s : _) → profile.Post κs a r s
-    → ◌≡◌ {A = Called} (record { number = r; work = s.1.0.now; room = s.1.1.0.now; report = s.1.1.1.0.now })
-    (called On Ordinary a.0.now a.1.0.now a.1.1.0.now a.1.1.1.0.now)
-promised_profile κs a r s p = p
-
-pub promised_profile_strict : (κs : _) (a : _) (r : _) (s : _) → profile-strict.Post κs a r s
-    → ◌≡◌ {A = Called} (record { number = r; work = s.1.0.now; room = s.1.1.0.now; report = s.1.1.1.0.now })
-    (called On Strict a.0.now a.1.0.now a.1.1.0.now a.1.1.1.0.now)
-promised_profile_strict κs a r s p = p
-
-pub promised_sarif_profile : (κs : _) (a : _) (r : _) (s : _) → sarif-profile.Post κs a r s
-    → ◌≡◌ {A = SarifCalled} (record { number = r; work = s.1.0.now; room = s.1.1.0.now; output = s.1.1.1.0.now; report = s.1.1.1.1.0.now })
-    (sarif_called On Ordinary a.0.now a.1.0.now a.1.1.0.now a.1.1.1.0.now a.1.1.1.1.0.now)
-promised_sarif_profile κs a r s p = p
-
-pub promised_sarif_profile_strict : (κs : _) (a : _) (r : _) (s : _) → sarif-profile-strict.Post κs a r s
-    → ◌≡◌ {A = SarifCalled} (record { number = r; work = s.1.0.now; room = s.1.1.0.now; output = s.1.1.1.0.now; report = s.1.1.1.1.0.now })
-    (sarif_called On Strict a.0.now a.1.0.now a.1.1.0.now a.1.1.1.0.now a.1.1.1.1.0.now)
-promised_sarif_profile_strict κs a r s p = p

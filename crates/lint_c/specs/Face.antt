@@ -1,15 +1,12 @@
--- The calls as C and Rust see them: numbers and slices alone. 02, §10: each with the profile or without. Assumes nothing.
+-- The calls as C and Rust see them: numbers and slices alone. Assumes nothing.
 use Rattle.std.specs.Prelude.{ℕ, min, List, [], ◌∷◌, ◌++◌, length, take, drop}
 use Rattle.tree.specs.declared.Mode.{Mode}
 use Rattle.rules.specs.Codes.{disabled, short_name}
-use Rattle.rules.specs.Joined.{codes_of}
 use Rattle.rules.specs.Outcome as outcome
-use Rattle.rules.specs.declared.Profile.{Profile}
-use Rattle.rules.specs.declared.Profile.TheVariants.{Off, On}
 use Rattle.rules.specs.declared.Outcome.{Outcome}
 use Rattle.rules.specs.declared.Outcome.TheVariants.{Listed, Refused}
 use Rattle.rules.specs.declared.Answer.{Answer}
-use Rattle.rules.specs.Calls.{DoneWithWork, lint_call, profiled_call}
+use Rattle.rules.specs.Calls.{lint_call}
 use Rattle.codes.specs.Named.{severity_of}
 use Rattle.codes.specs.declared.EvalSeverity.{EvalSeverity}
 use Rattle.codes.specs.declared.EvalSeverity.TheVariants.{Disabled, Warning}
@@ -18,9 +15,9 @@ use Rattle.sarif.specs.declared.Outcome.{Outcome as Log-outcome}
 use Rattle.sarif.specs.declared.Outcome.TheVariants.{Logged, Refused as Not-logged}
 use Rattle.sarif.specs.declared.Answer.{Answer as Log-answer}
 
--- The library's version: major * 10000 + minor * 100 + patch, here 3.2.0
+-- The library's version: major * 10000 + minor * 100 + patch, here 3.1.0
 abbrev pub library_version : ℕ
-library_version = 30200
+library_version = 30100
 
 -- ---- words laid over a room
 
@@ -73,13 +70,8 @@ pub record Called : Type 0 where
   pub room : List ℕ
   pub report : List ℕ
 
--- "The joined call is unchanged unless the profile is chosen, when .. the tally has twenty-two counts."
-abbrev pub called_of : Profile → Mode → List ℕ → List ℕ → List ℕ → DoneWithWork
-called_of Off mode t work room = lint_call mode t work room
-called_of On mode t work room = profiled_call On mode t work room
-
-abbrev pub called : Profile → Mode → List ℕ → List ℕ → List ℕ → List ℕ → Called
-called chosen mode t work room report = let done = called_of chosen mode t work room in record {
+abbrev pub called : Mode → List ℕ → List ℕ → List ℕ → List ℕ → Called
+called mode t work room report = let done = lint_call mode t work room in record {
   number = number_of done.answer.outcome;
   work = done.work;
   room = done.room;
@@ -98,13 +90,10 @@ abbrev pub bytes_of : Log-outcome → ℕ
 bytes_of (Logged n) = n.bytes
 bytes_of (Not-logged why) = 0
 
--- of the counts of all codes as many as are told
-abbrev pub with_counts : Profile → Outcome → List ℕ → Answer
-with_counts chosen o counts = record { outcome = o; tally = take (codes_of chosen) counts }
-
 -- the list's report, and after the last count the log's bytes
-abbrev pub log_report_of : Profile → Log-answer → List ℕ
-log_report_of chosen a = report_of (with_counts chosen (as_listed a.outcome) a.tally) ++ (bytes_of a.outcome ∷ [])
+abbrev pub log_report_of : Log-answer → List ℕ
+log_report_of a =
+    report_of (record { outcome = as_listed a.outcome; tally = a.tally }) ++ (bytes_of a.outcome ∷ [])
 
 pub record SarifCalled : Type 0 where
   pub number : ℕ
@@ -113,11 +102,11 @@ pub record SarifCalled : Type 0 where
   pub output : List ℕ
   pub report : List ℕ
 
-abbrev pub sarif_called : Profile → Mode → List ℕ → List ℕ → List ℕ → List ℕ → List ℕ → SarifCalled
-sarif_called chosen mode t work room output report = let done = sarif_call chosen mode t work room output in record {
+abbrev pub sarif_called : Mode → List ℕ → List ℕ → List ℕ → List ℕ → List ℕ → SarifCalled
+sarif_called mode t work room output report = let done = sarif_call mode t work room output in record {
   number = number_of (as_listed done.answer.outcome);
   work = done.work;
   room = done.room;
   output = done.output;
-  report = laid (log_report_of chosen done.answer) report;
+  report = laid (log_report_of done.answer) report;
 }

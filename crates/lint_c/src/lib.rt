@@ -1,22 +1,22 @@
-// The library for C and Rust: the joined call, its list as a SARIF log, each with the profile (02, §10) or without, and what a code is,
-// by numbers and slices alone.
+// The library for C and Rust: the joined call, its list as a SARIF log, and what a code is, by numbers and slices alone.
 // include/yudronkha.h is what a caller reads.
 #![tactic(auto)]
 
-ghost use Rattle.std.specs.Prelude.{◌≡◌, [], ◌∷◌, ◌++◌, min, ◌≤◌, length, get_or, take};
+ghost use Rattle.std.specs.Prelude.{◌≡◌, [], ◌∷◌, ◌++◌, min, ◌≤◌, length, get_or};
 ghost use Rattle.tree.specs.declared.Mode.TheVariants.{Ordinary, Strict};
-ghost use Rattle.rules.specs.declared.Profile.TheVariants.{Off, On};
 ghost use Rattle.rules.specs.Codes.{disabled, short_name};
-ghost use Rattle.rules.specs.Joined.{all_codes, codes_of};
-ghost use Rattle.lint_c.specs.Face.{library_version, numbered, severity_number, short_named, number_of, place_of, with_counts, report_of, over, laid, called, as_listed, bytes_of, log_report_of, sarif_called};
+ghost use Rattle.lint_c.specs.Face.{library_version, numbered, severity_number, short_named, number_of, place_of, report_of, over, laid, called, as_listed, bytes_of, log_report_of, sarif_called};
 
 use codes::EvalSeverity;
-use rules::{ALL_CODES, CODES, FullAnswer, Outcome, Profile};
+use rules::{Answer, CODES, Outcome};
 use sarif::{Answer as LogAnswer, Outcome as Logged};
 use tree::Mode;
 
 // Major * 10000 + minor * 100 + patch; include/yudronkha.h says when each goes up.
-const VERSION: usize = 30200;
+const VERSION: usize = 30100;
+
+// The words of a report: a place, then the count of each code. A log's has one word more, its bytes.
+const REPORT: usize = CODES + 1;
 
 fn least(a: usize, b: usize) -> usize
     ensures { result ≡ min a b }
@@ -40,7 +40,7 @@ pub extern "C" fn yudronkha_version() -> usize
 fn code_of(code: usize) -> u32
     ensures { (disabled result ≡ disabled code) × (short_name result ≡ short_name code) }
 {
-    if ALL_CODES < code {
+    if CODES < code {
         return 0;
     }
     code as u32
@@ -107,34 +107,24 @@ fn place_of(o: Outcome) -> usize
     }
 }
 
-// The counts that are told.
-fn told(chosen: Profile) -> usize
-    ensures { (result ≡ codes_of chosen) × (result ≤ all_codes) }
-{
-    match chosen {
-        Profile::Off => CODES,
-        Profile::On => ALL_CODES,
-    }
-}
-
 // Word k of a report: the count of a code stands at the code's own number.
-fn word(place: usize, tally: [usize; ALL_CODES], k: usize) -> usize
+fn word(place: usize, tally: [usize; CODES], k: usize) -> usize
     ensures { result ≡ get_or (place ∷ tally) k 0 }
 {
     if k < 1 {
         return place;
     }
-    if k <= ALL_CODES {
+    if k < REPORT {
         return tally[k - 1];
     }
     0
 }
 
 // A room of any length gets the words that it has room for.
-fn lay(place: usize, tally: [usize; ALL_CODES], chosen: Profile, report: &mut [usize])
-    ensures { report.new ≡ laid (place ∷ take (codes_of chosen) tally) report.old }
+fn lay(place: usize, tally: [usize; CODES], report: &mut [usize])
+    ensures { report.new ≡ laid (place ∷ tally) report.old }
 {
-    let n = least(told(chosen) + 1, report.len());
+    let n = least(REPORT, report.len());
     let mut k = 0;
     while k < n {
         report[k] = word(place, tally, k);
@@ -142,26 +132,19 @@ fn lay(place: usize, tally: [usize; ALL_CODES], chosen: Profile, report: &mut [u
     }
 }
 
-fn tell(a: FullAnswer, chosen: Profile, report: &mut [usize]) -> usize
-    ensures { (result ≡ number_of a.outcome) × (report.new ≡ laid (report_of (with_counts chosen a.outcome a.tally)) report.old) }
+fn tell(a: Answer, report: &mut [usize]) -> usize
+    ensures { (result ≡ number_of a.outcome) × (report.new ≡ laid (report_of a) report.old) }
 {
     let o = a.outcome;
     let tally = a.tally;
-    lay(place_of(o), tally, chosen, report);
+    lay(place_of(o), tally, report);
     number_of(o)
 }
 
-fn call(
-    t: &[u8],
-    mode: Mode,
-    chosen: Profile,
-    work: &mut [u16],
-    out: &mut [u32],
-    report: &mut [usize],
-) -> usize
-    ensures { record { number = result; work = work.new; room = out.new; report = report.new } ≡ called chosen mode t.now work.old out.old report.old }
+fn call(t: &[u8], mode: Mode, work: &mut [u16], out: &mut [u32], report: &mut [usize]) -> usize
+    ensures { record { number = result; work = work.new; room = out.new; report = report.new } ≡ called mode t.now work.old out.old report.old }
 {
-    tell(lint::profiled(t, mode, chosen, work, out), chosen, report)
+    tell(lint::lint(t, mode, work, out), report)
 }
 
 // The joined call, ordinary keys.
@@ -172,9 +155,9 @@ pub extern "C" fn yudronkha_lint(
     answer: &mut [u32],
     report: &mut [usize],
 ) -> usize
-    ensures { record { number = result; work = work.new; room = answer.new; report = report.new } ≡ called Off Ordinary tree.now work.old answer.old report.old }
+    ensures { record { number = result; work = work.new; room = answer.new; report = report.new } ≡ called Ordinary tree.now work.old answer.old report.old }
 {
-    call(tree, Mode::Ordinary, Profile::Off, work, answer, report)
+    call(tree, Mode::Ordinary, work, answer, report)
 }
 
 // The joined call, strict keys.
@@ -185,35 +168,9 @@ pub extern "C" fn yudronkha_lint_strict(
     answer: &mut [u32],
     report: &mut [usize],
 ) -> usize
-    ensures { record { number = result; work = work.new; room = answer.new; report = report.new } ≡ called Off Strict tree.now work.old answer.old report.old }
+    ensures { record { number = result; work = work.new; room = answer.new; report = report.new } ≡ called Strict tree.now work.old answer.old report.old }
 {
-    call(tree, Mode::Strict, Profile::Off, work, answer, report)
-}
-
-// The joined call, ordinary keys, with the profile.
-#[unsafe(no_mangle)]
-pub extern "C" fn yudronkha_lint_profile(
-    tree: &[u8],
-    work: &mut [u16],
-    answer: &mut [u32],
-    report: &mut [usize],
-) -> usize
-    ensures { record { number = result; work = work.new; room = answer.new; report = report.new } ≡ called On Ordinary tree.now work.old answer.old report.old }
-{
-    call(tree, Mode::Ordinary, Profile::On, work, answer, report)
-}
-
-// The joined call, strict keys, with the profile.
-#[unsafe(no_mangle)]
-pub extern "C" fn yudronkha_lint_profile_strict(
-    tree: &[u8],
-    work: &mut [u16],
-    answer: &mut [u32],
-    report: &mut [usize],
-) -> usize
-    ensures { record { number = result; work = work.new; room = answer.new; report = report.new } ≡ called On Strict tree.now work.old answer.old report.old }
-{
-    call(tree, Mode::Strict, Profile::On, work, answer, report)
+    call(tree, Mode::Strict, work, answer, report)
 }
 
 // ---- the list as a SARIF log
@@ -237,45 +194,36 @@ fn bytes_of(o: Logged) -> usize
 }
 
 // A log's report has its bytes after the counts.
-fn lay_log(
-    place: usize,
-    tally: [usize; ALL_CODES],
-    chosen: Profile,
-    bytes: usize,
-    report: &mut [usize],
-)
-    ensures { report.new ≡ laid ((place ∷ take (codes_of chosen) tally) ++ (bytes ∷ [])) report.old }
+fn lay_log(place: usize, tally: [usize; CODES], bytes: usize, report: &mut [usize])
+    ensures { report.new ≡ laid ((place ∷ tally) ++ (bytes ∷ [])) report.old }
 {
-    lay(place, tally, chosen, report);
-    let last = told(chosen) + 1;
-    if last < report.len() {
-        report[last] = bytes;
+    lay(place, tally, report);
+    if REPORT < report.len() {
+        report[REPORT] = bytes;
     }
 }
 
-fn tell_log(a: LogAnswer, chosen: Profile, report: &mut [usize]) -> usize
-    ensures { (result ≡ number_of (as_listed a.outcome)) × (report.new ≡ laid (log_report_of chosen a) report.old) }
+fn tell_log(a: LogAnswer, report: &mut [usize]) -> usize
+    ensures { (result ≡ number_of (as_listed a.outcome)) × (report.new ≡ laid (log_report_of a) report.old) }
 {
     let o = a.outcome;
     let tally = a.tally;
     let l = as_listed(o);
-    lay_log(place_of(l), tally, chosen, bytes_of(o), report);
+    lay_log(place_of(l), tally, bytes_of(o), report);
     number_of(l)
 }
 
 fn log_call(
     t: &[u8],
     mode: Mode,
-    chosen: Profile,
     work: &mut [u16],
     out: &mut [u32],
     output: &mut [u8],
     report: &mut [usize],
 ) -> usize
-    ensures { record { number = result; work = work.new; room = out.new; output = output.new; report = report.new } ≡ sarif_called chosen mode t.now work.old out.old output.old report.old }
+    ensures { record { number = result; work = work.new; room = out.new; output = output.new; report = report.new } ≡ sarif_called mode t.now work.old out.old output.old report.old }
 {
-    let a = sarif::sarif(t, mode, chosen, work, out, output);
-    tell_log(a, chosen, report)
+    tell_log(sarif::sarif(t, mode, work, out, output), report)
 }
 
 // The list as a SARIF log, ordinary keys.
@@ -287,17 +235,9 @@ pub extern "C" fn yudronkha_sarif(
     output: &mut [u8],
     report: &mut [usize],
 ) -> usize
-    ensures { record { number = result; work = work.new; room = answer.new; output = output.new; report = report.new } ≡ sarif_called Off Ordinary tree.now work.old answer.old output.old report.old }
+    ensures { record { number = result; work = work.new; room = answer.new; output = output.new; report = report.new } ≡ sarif_called Ordinary tree.now work.old answer.old output.old report.old }
 {
-    log_call(
-        tree,
-        Mode::Ordinary,
-        Profile::Off,
-        work,
-        answer,
-        output,
-        report,
-    )
+    log_call(tree, Mode::Ordinary, work, answer, output, report)
 }
 
 // The list as a SARIF log, strict keys.
@@ -309,59 +249,7 @@ pub extern "C" fn yudronkha_sarif_strict(
     output: &mut [u8],
     report: &mut [usize],
 ) -> usize
-    ensures { record { number = result; work = work.new; room = answer.new; output = output.new; report = report.new } ≡ sarif_called Off Strict tree.now work.old answer.old output.old report.old }
+    ensures { record { number = result; work = work.new; room = answer.new; output = output.new; report = report.new } ≡ sarif_called Strict tree.now work.old answer.old output.old report.old }
 {
-    log_call(
-        tree,
-        Mode::Strict,
-        Profile::Off,
-        work,
-        answer,
-        output,
-        report,
-    )
-}
-
-// The list as a SARIF log, ordinary keys, with the profile.
-#[unsafe(no_mangle)]
-pub extern "C" fn yudronkha_sarif_profile(
-    tree: &[u8],
-    work: &mut [u16],
-    answer: &mut [u32],
-    output: &mut [u8],
-    report: &mut [usize],
-) -> usize
-    ensures { record { number = result; work = work.new; room = answer.new; output = output.new; report = report.new } ≡ sarif_called On Ordinary tree.now work.old answer.old output.old report.old }
-{
-    log_call(
-        tree,
-        Mode::Ordinary,
-        Profile::On,
-        work,
-        answer,
-        output,
-        report,
-    )
-}
-
-// The list as a SARIF log, strict keys, with the profile.
-#[unsafe(no_mangle)]
-pub extern "C" fn yudronkha_sarif_profile_strict(
-    tree: &[u8],
-    work: &mut [u16],
-    answer: &mut [u32],
-    output: &mut [u8],
-    report: &mut [usize],
-) -> usize
-    ensures { record { number = result; work = work.new; room = answer.new; output = output.new; report = report.new } ≡ sarif_called On Strict tree.now work.old answer.old output.old report.old }
-{
-    log_call(
-        tree,
-        Mode::Strict,
-        Profile::On,
-        work,
-        answer,
-        output,
-        report,
-    )
+    log_call(tree, Mode::Strict, work, answer, output, report)
 }

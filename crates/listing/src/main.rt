@@ -3,18 +3,17 @@
 
 ghost use Rattle.std.specs.Prelude.{◌≡◌, false};
 ghost use Rattle.tree.specs.declared.Mode.TheVariants.{Ordinary};
-ghost use Rattle.rules.specs.declared.Profile.TheVariants.{Off};
 ghost use Rattle.text.specs.Text.{text_of};
 
 use libc::{STDERR_FILENO, STDIN_FILENO, STDOUT_FILENO};
-use rules::{Profile, WIDTH, WORK_WORDS};
+use rules::{WIDTH, WORK_WORDS};
 use tree::Mode;
 
 // The words of 2,048 records.
 const ANSWER: usize = WIDTH * 2048;
 
 // Bytes for every text of a call with that much answer room.
-const PAGE: usize = 11 * ANSWER + 500;
+const PAGE: usize = 11 * ANSWER + 400;
 
 fn say(s: &[u8]) {
     if !io::write_all(STDOUT_FILENO, s) {
@@ -24,7 +23,7 @@ fn say(s: &[u8]) {
 
 // Handed to the write call: the text of the joined call on t, lent rooms as long as these.
 fn hand(s: &[u8], t: &[u8], work: &[u16], answer: &[u32])
-    requires { s.now ≡ text_of false Off Ordinary t.now work.now answer.now }
+    requires { s.now ≡ text_of false Ordinary t.now work.now answer.now }
 {
     say(s);
 }
@@ -33,15 +32,7 @@ fn list(t: &[u8]) {
     let mut work = [0u16; WORK_WORDS];
     let mut answer = [0u32; ANSWER];
     let mut page = [0u8; PAGE];
-    let n = text::text(
-        t,
-        Mode::Ordinary,
-        Profile::Off,
-        &mut work,
-        &mut answer,
-        false,
-        &mut page,
-    );
+    let n = text::text(t, Mode::Ordinary, &mut work, &mut answer, false, &mut page);
     hand(&page[..n], t, &work, &answer);
 }
 

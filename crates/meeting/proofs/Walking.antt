@@ -19,6 +19,13 @@ use Rattle.meeting.specs.Words.{meet_words, meets}
 use Rattle.meeting.proofs.Siblings.{siblings, no_siblings}
 use Rattle.meeting.proofs.Steps.{meets_append}
 
+-- a node of a part, and what is below it
+pub whole_at : {t : List ℕ} {i e : ℕ} → Part t i e → i < e → Subtree t i
+whole_at p lt = record { part = first p lt; some = sized p lt }
+
+pub under : {t : List ℕ} {c : ℕ} → Subtree t c → Part t (c + 1) (c + size_at t c)
+under s = later s.part (omega arith)
+
 pub few : {t : List ℕ} {c : ℕ} → Subtree t c → c < 1024
 few s = omega (arith, s.part.few, s.some)
 

@@ -12,7 +12,8 @@ use Rattle.rules.specs.declared.Outcome.TheVariants.{Listed, Refused}
 use Rattle.rules.specs.declared.Refusal.TheVariants.{WorkRoom, AnswerRoom}
 use Rattle.rules.specs.declared.Answer.{Answer}
 use Rattle.rules.specs.Record.{Rec, width}
-use Rattle.rules.specs.Outcome.{work_words, all_zero, cleared}
+use Rattle.rules.specs.Joined.{no_tally}
+use Rattle.rules.specs.Outcome.{work_words, cleared}
 use Rattle.rules.specs.Calls.{done_with_work}
 use Rattle.rules.specs.Afterwards.{Gives}
 use Rattle.rules.proofs.Answered.{answer_same, work_lacking, with_work}
@@ -48,7 +49,7 @@ module _ (t w : List ℕ) (n : ℕ) (few : n ≤ 1024) (o y : List ℕ) (a : Ans
   few_records : length (records_of t w n) ≤ 18446744073709551615
   few_records = omega (arith, records_length t w n)
 
-  pub short_of : length o / width < n → a.outcome ≡ Refused (AnswerRoom n) → a.tally ≡ all_zero y
+  pub short_of : length o / width < n → a.outcome ≡ Refused (AnswerRoom n) → a.tally ≡ no_tally
       → Answers (records_of t w n) o y a o
   short_of h p q = record {
     answers = λ u f v.
@@ -99,7 +100,7 @@ zeros_front k v w h e = ap (λ (l : List ℕ). l ++ drop k w) (e ∙ ap (λ (n :
 -- ---- the whole call
 
 module _ (t : List ℕ) (f : Facts) (valid : judged t ≡ Valid f) (rs : List Rec) (w o y : List ℕ) (a : Answer) where
-  pub unlent : length w < work_words → a.outcome ≡ Refused WorkRoom → a.tally ≡ all_zero y → Gives (done_with_work rs t w o y) a o w
+  pub unlent : length w < work_words → a.outcome ≡ Refused WorkRoom → a.tally ≡ no_tally → Gives (done_with_work rs t w o y) a o w
   unlent h p q = rw (work_lacking rs t w o y valid h, answer_same a p q)
 
   pub lent : (o₁ w₁ : List ℕ) → work_words ≤ length w → Answers rs o y a o₁ → w₁ ≡ cleared w → Gives (done_with_work rs t w o y) a o₁ w₁

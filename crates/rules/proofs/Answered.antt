@@ -1,12 +1,12 @@
 -- What a call answers and leaves, check by check: for the proofs of every call. Assumes nothing.
 use Prim.Native.Nat.{ℕ, ◌*◌, ◌≤◌, ◌<◌}
 use native.Mathlib.Omega.{arith}
-use mathlib.Core.Path.{◌≡◌, refl, sym, ap, ◌∙◌}
+use mathlib.Core.Path.{◌≡◌, refl, ap, ◌∙◌}
 use mathlib.Core.Bool.{Bool, true, false}
 use mathlib.Core.List.{List, [], ◌∷◌, ◌++◌}
 use mathlib.Core.Option.{Option, none, some}
 use lib.Dec.{ltb}
-use lib.ListN.{length, drop, replicate}
+use lib.ListN.{length, drop}
 use mathlib.Core.Logic.{◌⊎◌, inl, inr}
 use borrow.Author.Tests.{lt-ltb, le-ltb, ltb-true, ltb-false}
 use Rattle.tree.specs.Judge.{judged}
@@ -20,8 +20,8 @@ use Rattle.rules.specs.declared.Outcome.{Outcome}
 use Rattle.rules.specs.declared.Outcome.TheVariants.{Listed, Refused}
 use Rattle.rules.specs.declared.Answer.{Answer}
 use Rattle.rules.specs.Record.{Rec, width, all_words}
-use Rattle.rules.specs.Joined.{codes, all_codes, no_tally, no_full_tally, raise_all}
-use Rattle.rules.specs.Outcome.{Check, the_file, work_room, answer_room, other_room, work_words, refuse_if, gives, refusal, all_zero, answer_by, room_by, work_by, cleared}
+use Rattle.rules.specs.Joined.{no_tally, raise_all}
+use Rattle.rules.specs.Outcome.{Check, the_file, work_room, answer_room, other_room, work_words, refuse_if, gives, refusal, answer_by, room_by, work_by, cleared}
 use Rattle.rules.specs.Record.{or_else}
 use Rattle.rules.specs.Calls.{Done, DoneWithWork, checks, checks_with_work, done, done_with_work}
 
@@ -93,19 +93,11 @@ room_passed a b n lent = go (gives a) (gives b) (ltb lent (width * n)) refl
 -- ---- the answers
 
 -- a refusal's; a list's
-abbrev pub refused : Refusal → List ℕ → Answer
-refused why tally = record { outcome = Refused why; tally = all_zero tally }
+abbrev pub refused : Refusal → Answer
+refused why = record { outcome = Refused why; tally = no_tally }
 
 abbrev pub listed : List Rec → List ℕ → Answer
 listed rs tally = record { outcome = Listed (length rs); tally = raise_all rs tally }
-
--- as many all-zero as there are counts
-module _ (tally : List ℕ) where
-  pub no_counts : length tally ≡ codes → no_tally ≡ all_zero tally
-  no_counts e = ap (λ (n : ℕ). replicate n 0) (sym e)
-
-  pub no_full_counts : length tally ≡ all_codes → no_full_tally ≡ all_zero tally
-  no_full_counts e = ap (λ (n : ℕ). replicate n 0) (sym e)
 
 -- the answer room with a list in it
 abbrev pub filled : List Rec → List ℕ → List ℕ
@@ -122,12 +114,12 @@ module _ (rs : List Rec) (t room tally : List ℕ) where
   unfolding done
   by e = rw e
 
-  pub done_unfit : {why : tree.Refusal} → judged t ≡ Unfit why → done rs t room tally ≡ record { answer = refused (Tree why) tally; room = room }
+  pub done_unfit : {why : tree.Refusal} → judged t ≡ Unfit why → done rs t room tally ≡ record { answer = refused (Tree why); room = room }
   unfolding answer_by room_by
   done_unfit e = by (unfit _ e)
 
   pub done_short : {f : Facts} → judged t ≡ Valid f → length room < width * length rs
-      → done rs t room tally ≡ record { answer = refused (AnswerRoom (length rs)) tally; room = room }
+      → done rs t room tally ≡ record { answer = refused (AnswerRoom (length rs)); room = room }
   unfolding answer_by room_by
   done_short e h = by (fit _ e ∙ room_short _ (length rs) (length room) h)
 
@@ -145,17 +137,17 @@ module _ (rs : List Rec) (t work room tally : List ℕ) where
   by_with_work e = rw e
 
   pub work_unfit : {why : tree.Refusal} → judged t ≡ Unfit why
-      → done_with_work rs t work room tally ≡ record { answer = refused (Tree why) tally; room = room; work = work }
+      → done_with_work rs t work room tally ≡ record { answer = refused (Tree why); room = room; work = work }
   unfolding answer_by room_by work_by
   work_unfit e = by_with_work (unfit _ e)
 
   pub work_lacking : {f : Facts} → judged t ≡ Valid f → length work < work_words
-      → done_with_work rs t work room tally ≡ record { answer = refused WorkRoom tally; room = room; work = work }
+      → done_with_work rs t work room tally ≡ record { answer = refused WorkRoom; room = room; work = work }
   unfolding answer_by room_by work_by
   work_lacking e l = by_with_work (fit _ e ∙ work_short _ (length work) l)
 
   pub work_unlisted : {f : Facts} → judged t ≡ Valid f → work_words ≤ length work → length room < width * length rs
-      → done_with_work rs t work room tally ≡ record { answer = refused (AnswerRoom (length rs)) tally; room = room; work = cleared work }
+      → done_with_work rs t work room tally ≡ record { answer = refused (AnswerRoom (length rs)); room = room; work = cleared work }
   unfolding answer_by room_by work_by
   work_unlisted e l h = by_with_work (fit _ e ∙ (work_enough _ (length work) l ∙ room_short _ (length rs) (length room) h))
 

@@ -78,10 +78,10 @@ one_outcome p q = p ∙ sym q
 module _ (rs : List Rec) (t work room tally : List ℕ) (a : Answer) (room' work' : List ℕ)
     (gives : Gives (done_with_work rs t work room tally) a room' work') where
   refuses : (why : Refusal) → (1 ≤ number_of why) × (number_of why ≤ 11) → refusal (checks_with_work rs t work room) ≡ some why
-      → Refuses rs t tally why work room a room' work'
+      → Refuses rs t why work room a room' work'
   unfolding done_with_work answer_by room_by
   refuses why n e =
-      let d : Gives (record { answer = IsRefused-as why tally; room = room; work = work_by (some why) work }) a room' work' = gives ∙ rw e in
+      let d : Gives (record { answer = IsRefused-as why; room = room; work = work_by (some why) work }) a room' work' = gives ∙ rw e in
       record {
         given = e;
         outcome = ap (λ (x : DoneWithWork). x.answer.outcome) d;

@@ -2,7 +2,7 @@
 -- flow and dubious are the same, and version 2's joined list is version 1's without the 15s of re-exports. Assumes nothing.
 use Prim.Native.Nat.{ℕ}
 use native.Mathlib.Omega.{arith}
-use mathlib.Core.Path.{◌≡◌, refl, sym, ap, ap₂, ◌∙◌}
+use mathlib.Core.Path.{◌≡◌, refl, sym, ap, ◌∙◌}
 use mathlib.Core.Bool.{Bool, true, false, not, ◌&&◌}
 use mathlib.Core.List.{List, [], ◌∷◌, ◌++◌, append_assoc}
 use mathlib.Core.Option.{Option, none, some}
@@ -20,11 +20,8 @@ use Rattle.rules.specs.Visit.{each}
 use Rattle.rules.specs.Names.{met_in, names_list}
 use Rattle.rules.specs.Flow.{flow_list}
 use Rattle.rules.specs.Incompatible.{check_at, Deed, defines, repeats, deeds, First, first_of, was_free, again, defined, may_repeat, repeated, type_name, five_types, spells_one, incompatible_list}
-use Rattle.rules.specs.Profile.{profile_list}
 use Rattle.rules.specs.Dubious.{dubious_list}
-use Rattle.rules.specs.Joined.{lint_list, profiled_list}
-use Rattle.rules.specs.declared.Profile.{Profile}
-use Rattle.rules.specs.declared.Profile.TheVariants.{Off, On}
+use Rattle.rules.specs.Joined.{lint_list}
 use Rattle.rules.specs.Dialect.{head_of, first_deed, Among, Quieted, end, goes, stays, stays_own, QuietedIn}
 
 -- ---- the rule's first definitions are the first deeds
@@ -168,11 +165,6 @@ module _ (t u : List ℕ) (s : Twins t u) where
   unfolding dubious_list
   same_dubious mode = rw (same_table t u s, same_tree t u s)
 
-  -- 02, §10: nor does the profile's list depend on the version
-  pub same_profile : profile_list t ≡ profile_list u
-  unfolding profile_list
-  same_profile = rw (same_tree t u s)
-
   pub quieted : (mode : Mode) → version_of t ≡ 1 → version_of u ≡ 2 → QuietedIn (deeds (tree_of u)) (lint_list mode t) (lint_list mode u)
   unfolding lint_list incompatible_list
   quieted mode one two =
@@ -192,22 +184,3 @@ module _ (t u : List ℕ) (s : Twins t u) where
       placed a b c x d =
           ap (λ (l : List Rec). a ++ (b ++ l)) (append_assoc c x d)
           ∙ sym (append_assoc a (b ++ c) (x ++ d) ∙ ap (λ (l : List Rec). a ++ l) (append_assoc b c (x ++ d)))
-
-  -- the same with the profile or without: its list comes behind
-  pub quieted_profiled : (chosen : Profile) (mode : Mode) → version_of t ≡ 1 → version_of u ≡ 2
-      → QuietedIn (deeds (tree_of u)) (profiled_list chosen mode t) (profiled_list chosen mode u)
-  quieted_profiled Off mode one two = quieted mode one two
-  quieted_profiled On mode one two =
-      let q = quieted mode one two in
-      record {
-        front = q.front;
-        behind = q.behind ++ profile_list u;
-        ones = q.ones;
-        others = q.others;
-        first = ap₂ (λ (a b : List Rec). a ++ b) q.first same_profile ∙ further q.front q.ones q.behind (profile_list u);
-        second = ap (λ (a : List Rec). a ++ profile_list u) q.second ∙ further q.front q.others q.behind (profile_list u);
-        quieted = q.quieted;
-      }
-    where
-      further : (a b c d : List Rec) → (a ++ (b ++ c)) ++ d ≡ a ++ (b ++ (c ++ d))
-      further a b c d = append_assoc a (b ++ c) d ∙ ap (λ (l : List Rec). a ++ l) (append_assoc b c d)

@@ -1,6 +1,6 @@
 -- A fact of each member: of joined lists, and of a list that is there or not. Assumes nothing.
 use mathlib.Core.Bool.{Bool, true, false}
-use mathlib.Core.List.{List, [], ◌∷◌, ◌++◌, map}
+use mathlib.Core.List.{List, [], ◌∷◌, ◌++◌}
 use mathlib.Core.Option.{Option, none, some}
 use lib.Dec.{T}
 use Rattle.rules.specs.Record.{listed, Each}
@@ -43,7 +43,3 @@ module _ {A : Type 0} (P : A → Type 0) where
 pub each_more : {A : Type 0} (P Q : A → Type 0) → ((x : A) → P x → Q x) → (xs : List A) → Each P xs → Each Q xs
 each_more P Q f [] p = tt
 each_more P Q f (x ∷ xs) p = (f x p.0, each_more P Q f xs p.1)
-
-pub each_map : {A B : Type 0} (P : B → Type 0) (g : A → B) (xs : List A) → Each (λ x. P (g x)) xs → Each P (map g xs)
-each_map P g [] p = tt
-each_map P g (x ∷ xs) p = (p.0, each_map P g xs p.1)

@@ -26,13 +26,11 @@ pub mod Numbered
 pub mod Seven
 pub mod Peak
 pub mod Few
-pub mod Stricter
 pub mod Dialect
 pub mod Coded
 pub mod Lists
 pub mod Releases
 pub mod Tally
-pub mod Counts
 pub mod Whole
 pub mod Words
 pub mod Answered
@@ -41,5 +39,4 @@ pub mod ReleasesCalled
 pub mod Known
 pub mod Checked
 pub mod Examples
-pub mod ProfileShown
 pub mod ReleasesShown

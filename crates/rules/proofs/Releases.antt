@@ -22,7 +22,6 @@ use Rattle.rules.specs.Names.{same, Scope, Warning, warned, warn_new, warn_if, w
 use Rattle.rules.specs.Flow.{flow_list}
 use Rattle.rules.specs.Incompatible.{incompatible_list}
 use Rattle.rules.specs.Dubious.{dubious_list}
-use Rattle.rules.specs.Profile.{profile_list}
 use Rattle.rules.specs.Releases.{held, QuietedBy, Without5}
 use Rattle.rules.proofs.Spots.{same_sound}
 use Rattle.rules.proofs.Each.{each_more}
@@ -171,10 +170,6 @@ module _ (t u : List ℕ) (s : SameScript t u) (f : Facts) (v : judged t ≡ Val
   pub same_dubious : (mode : Mode) → dubious_list mode u ≡ dubious_list mode t
   unfolding dubious_list
   same_dubious mode = rw (same_table t u s, same_tree t u s f v)
-
-  pub same_profile : profile_list u ≡ profile_list t
-  unfolding profile_list
-  same_profile = rw (same_tree t u s f v)
 
   same_met : met_in t ≡ met_in u
   unfolding met_in

@@ -18,10 +18,9 @@ use Rattle.rules.specs.Names.{names_list}
 use Rattle.rules.specs.Flow.{flow_list}
 use Rattle.rules.specs.Incompatible.{incompatible_list}
 use Rattle.rules.specs.Dubious.{dubious_list}
-use Rattle.rules.specs.Profile.{profile_list}
 use Rattle.rules.specs.Joined.{one_more, raise, raise_all}
 use Rattle.rules.specs.Outcome.{work_words}
-use Rattle.rules.specs.Calls.{done, done_with_work, names_call, flow_call, incompatible_call, dubious_call, profile_call}
+use Rattle.rules.specs.Calls.{done, done_with_work, names_call, flow_call, incompatible_call, dubious_call}
 use Rattle.rules.specs.Afterwards.{records_in, Gives, WarnedOrRefused, warned, refused}
 use Rattle.rules.specs.Releases.{QuietedBy, count_in, QuietedCall}
 use Rattle.rules.specs.declared.Answer.{Answer}
@@ -30,7 +29,7 @@ use Rattle.rules.proofs.Lists.{keep_so, keep_not, keep_fewer}
 use Rattle.rules.proofs.Tally.{length_raise, set_there}
 use Rattle.rules.proofs.Called.{length_records, warned_or_refused, lists, records_all, valid_where_listed}
 use Rattle.rules.proofs.Answered.{fit}
-use Rattle.rules.proofs.Releases.{not_held, same_flow, same_incompatible, same_dubious, same_profile, quieted_names}
+use Rattle.rules.proofs.Releases.{not_held, same_flow, same_incompatible, same_dubious, quieted_names}
 
 -- ---- counts
 
@@ -157,6 +156,3 @@ module _ (t u : List ℕ) (s : SameScript t u) (f g : Facts) (v : judged t ≡ V
 
   pub same_dubious_call : (mode : Mode) (room tally : List ℕ) → dubious_call mode u room tally ≡ dubious_call mode t room tally
   same_dubious_call mode = same_done (dubious_list mode t) (dubious_list mode u) (same_dubious t u s f v mode)
-
-  pub same_profile_call : (room tally : List ℕ) → profile_call u room tally ≡ profile_call t room tally
-  same_profile_call = same_done (profile_list t) (profile_list u) (same_profile t u s f v)

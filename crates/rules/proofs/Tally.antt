@@ -5,16 +5,15 @@ use mathlib.Core.Path.{◌≡◌, refl, sym, ap, subst, ◌∙◌}
 use mathlib.Core.Bool.{Bool, true, false, cond}
 use mathlib.Core.List.{List, [], ◌∷◌, ◌++◌, map}
 use lib.Dec.{eqb, ltb, T, eqb→eq, lt→ltb, eqb-suc-zero, eqb_refl}
-use lib.ListN.{length, get_or, set, replicate, length-set, length-replicate, get_or-replicate}
+use lib.ListN.{length, get_or, set, length-set, get_or-replicate}
 use native.Mathlib.Nat.{zero-add}
 use Rattle.tree.specs.declared.Mode.{Mode}
 use Rattle.tree.specs.Forest.{tree_of}
-use Rattle.rules.specs.Record.{Rec, Each}
-use Rattle.rules.specs.Joined.{lint_list, codes, numbers, count_of, tally_to, tally_of, no_tally, one_more, raise, raise_all}
+use Rattle.rules.specs.Record.{Rec}
+use Rattle.rules.specs.Joined.{lint_list, codes, numbers, count_of, tally_of, no_tally, one_more, raise, raise_all}
 use Rattle.rules.specs.code.Marks.{nodes}
 use Rattle.rules.proofs.Few.{lint_few}
 use Rattle.rules.proofs.Bools.{so}
-use Rattle.rules.proofs.Each.{each_more}
 
 pub raise_append : (rs ss : List Rec) (ns : List ℕ) → raise_all (rs ++ ss) ns ≡ raise_all ss (raise_all rs ns)
 unfolding raise_all
@@ -103,46 +102,19 @@ numbers_at f (suc n) c (suc k) h =
     let e : suc c + k ≡ c + suc k = omega arith in
     numbers_at f n (suc c) k (omega arith) ∙ ap f e
 
-tally_at : (n : ℕ) (rs : List Rec) (k : ℕ) → k < n → get_or (tally_to n rs) k 0 ≡ count_of (suc k) rs
-tally_at n rs k h = let e : 1 + k ≡ suc k = omega arith in numbers_at (λ c. count_of c rs) n 1 k h ∙ ap (λ (c : ℕ). count_of c rs) e
+tally_at : (rs : List Rec) (k : ℕ) → k < codes → get_or (tally_of rs) k 0 ≡ count_of (suc k) rs
+tally_at rs k h = let e : 1 + k ≡ suc k = omega arith in numbers_at (λ c. count_of c rs) codes 1 k h ∙ ap (λ (c : ℕ). count_of c rs) e
 
-length_tally : (n c : ℕ) (rs : List Rec) → length (map (λ c. count_of c rs) (numbers n c)) ≡ n
-length_tally zero c rs = refl
-length_tally (suc n) c rs = ap suc (length_tally n (suc c) rs)
-
--- THE TALLY of a list, raised from none, of n counts
-pub tally_raised : (n : ℕ) (rs : List Rec) → length rs ≤ 18446744073709551615 → raise_all rs (replicate n 0) ≡ tally_to n rs
-tally_raised n rs h =
-    let z : length (raise_all rs (replicate n 0)) ≡ n = length_raise_all rs (replicate n 0) ∙ length-replicate {A = ℕ} n 0 in
-    alike (raise_all rs (replicate n 0)) (tally_to n rs) (z ∙ sym (length_tally n 1 rs)) (λ k l.
-    let m : k < n = omega (arith, z, l) in
-    let d : get_or (replicate n 0) k 0 ≡ 0 = get_or-replicate n k 0 0 m in
-    counted rs (replicate n 0) k (rw (length-replicate {A = ℕ} n 0) m) (omega (arith, d, h)) ∙ ap (λ (x : ℕ). x + count_of (suc k) rs) d ∙ zero-add (count_of (suc k) rs)
-    ∙ sym (tally_at n rs k m))
-
--- more counts than there are codes in a list: the others stay
-set_front : (ns ms : List ℕ) (i v : ℕ) → i < length ns → set (ns ++ ms) i v ≡ set ns i v ++ ms
-set_front [] ms i v h = absurd (omega arith)
-set_front (n ∷ ns) ms zero v h = refl
-set_front (n ∷ ns) ms (suc i) v h = ap (λ (l : List ℕ). n ∷ l) (set_front ns ms i v (omega arith))
-
-get_d_front : (ns ms : List ℕ) (i : ℕ) → i < length ns → get_or (ns ++ ms) i 0 ≡ get_or ns i 0
-get_d_front [] ms i h = absurd (omega arith)
-get_d_front (n ∷ ns) ms zero h = refl
-get_d_front (n ∷ ns) ms (suc i) h = get_d_front ns ms i (omega arith)
-
-raise_front : (c : ℕ) (ns ms : List ℕ) → c ≤ length ns → raise c (ns ++ ms) ≡ raise c ns ++ ms
-unfolding raise
-raise_front zero ns ms h = refl
-raise_front (suc i) ns ms h = rw (get_d_front ns ms i (omega arith)) (set_front ns ms i (one_more (get_or ns i 0)) (omega arith))
-
-pub raise_all_front : (rs : List Rec) (ns ms : List ℕ) → Each (λ r. r.code ≤ length ns) rs → raise_all rs (ns ++ ms) ≡ raise_all rs ns ++ ms
-unfolding raise_all
-raise_all_front [] ns ms h = refl
-raise_all_front (r ∷ rs) ns ms h =
-    ap (raise_all rs) (raise_front r.code ns ms h.0)
-    ∙ raise_all_front rs (raise r.code ns) ms (each_more _ _ (λ r l. rw (length_raise _ ns) l) rs h.1)
+-- THE TALLY of a list, raised from none
+pub tally_raised : (rs : List Rec) → length rs ≤ 18446744073709551615 → raise_all rs no_tally ≡ tally_of rs
+tally_raised rs h =
+    let z : length (raise_all rs no_tally) ≡ codes = length_raise_all rs no_tally in
+    alike (raise_all rs no_tally) (tally_of rs) z (λ k l.
+    let m : k < codes = omega (arith, z, l) in
+    let n : get_or no_tally k 0 ≡ 0 = get_or-replicate codes k 0 0 m in
+    counted rs no_tally k m (omega (arith, n, h)) ∙ ap (λ (x : ℕ). x + count_of (suc k) rs) n ∙ zero-add (count_of (suc k) rs)
+    ∙ sym (tally_at rs k m))
 
 -- ... of the joined call, whose list can't come near the largest count
 pub lint_tally : (mode : Mode) (t : List ℕ) → nodes (tree_of t) ≤ 1024 → raise_all (lint_list mode t) no_tally ≡ tally_of (lint_list mode t)
-lint_tally mode t h = let p = lint_few mode t in tally_raised codes (lint_list mode t) (omega arith)
+lint_tally mode t h = let p = lint_few mode t in tally_raised (lint_list mode t) (omega arith)

@@ -3,7 +3,7 @@ use Prim.Native.Nat.{ℕ, ◌≤◌}
 use native.Mathlib.Omega.{arith}
 use mathlib.Core.Path.{◌≡◌}
 use mathlib.Core.List.{List}
-use lib.ListN.{length, length-append}
+use lib.ListN.{length}
 use Rattle.tree.specs.Forest.{Forest, Forest.none as leaf, node, tree_of}
 use Rattle.tree.specs.Table.{table_of, spells, underscored}
 use Rattle.tree.specs.declared.Mode.{Mode}
@@ -14,18 +14,14 @@ use Rattle.tree.specs.declared.Judged.TheVariants.{Valid}
 use Rattle.tree.proofs.Whole.{sound}
 use Rattle.tree.proofs.Fits.{tree_valid, tree_count}
 use Rattle.rules.specs.Order.{body, fail_name}
-use Rattle.rules.specs.Profile.{profile_list}
-use Rattle.rules.specs.Joined.{lint_list, profiled_list, raise_all, all_codes, no_tally, no_full_tally, tally_of, full_tally_of}
-use Rattle.rules.specs.declared.Profile.{Profile}
-use Rattle.rules.specs.declared.Profile.TheVariants.{Off, On}
+use Rattle.rules.specs.Joined.{lint_list, raise_all, no_tally, tally_of}
 use Rattle.rules.specs.Premises.{Premises}
 use Rattle.rules.specs.Letter.{Demand3Of, TheDemand}
 use Rattle.rules.specs.code.Marks.{nodes, Every, start}
 use Rattle.rules.proofs.Demand3.{demand3_of}
 use Rattle.rules.proofs.Seven.{Capacity, capacity}
 use Rattle.rules.proofs.Few.{lint_few}
-use Rattle.rules.proofs.Tally.{tally_raised, lint_tally}
-use Rattle.rules.proofs.Stricter.{profile_few}
+use Rattle.rules.proofs.Tally.{lint_tally}
 
 pub nodes_count : (f : Forest) → nodes f ≡ count f
 unfolding count
@@ -48,25 +44,12 @@ module _ (t : List ℕ) (f : Facts) (v : judged t ≡ Valid f) where
   pub file_demand3 : Premises (tree_of t) → Demand3Of t
   file_demand3 p = demand3_of t (tree_valid t f v) p
 
-  -- the profile's list: at most a record a node
-  pub file_profile_few : length (profile_list t) ≤ 1024
-  unfolding profile_list
-  file_profile_few = omega (arith, profile_few (tree_of t), file_few)
-
   -- the joined list, and its tally
   pub file_lint_few : (mode : Mode) → length (lint_list mode t) ≤ 10240
   file_lint_few mode = let a = lint_few mode t in let b = file_few in omega arith
 
   pub file_tally : (mode : Mode) → raise_all (lint_list mode t) no_tally ≡ tally_of (lint_list mode t)
   file_tally mode = lint_tally mode t file_few
-
-  -- the same with the profile or without
-  pub file_profiled_few : (chosen : Profile) (mode : Mode) → length (profiled_list chosen mode t) ≤ 11264
-  file_profiled_few Off mode = omega (arith, file_lint_few mode)
-  file_profiled_few On mode = rw length-append (omega (arith, file_lint_few mode, file_profile_few))
-
-  pub file_full_tally : (chosen : Profile) (mode : Mode) → raise_all (profiled_list chosen mode t) no_full_tally ≡ full_tally_of (profiled_list chosen mode t)
-  file_full_tally chosen mode = let p = file_profiled_few chosen mode in tally_raised all_codes (profiled_list chosen mode t) (omega arith)
 
   -- what the names engine has to hold
   pub file_capacity : Every (underscored (table_of t)) (Capacity (tree_of t)) 0 (body (spells (table_of t) fail_name) (tree_of t)) start

@@ -1,12 +1,10 @@
--- Records one after the other in lent words, for the passes and the joined call; a list copied over another, number by number.
-use Prim.Native.Nat.{ℕ, ◌+◌, ◌*◌, ◌<◌}
+-- Records one after the other in lent words: for the passes and the joined call.
+use Prim.Native.Nat.{ℕ, ◌+◌, ◌*◌}
 use native.Mathlib.Omega.{arith}
-use native.Mathlib.Nat.{zero-add}
-use native.Mathlib.Numerals.{add-one}
 use mathlib.Core.Path.{◌≡◌, refl, sym, ap, ◌∙◌}
 use mathlib.Core.List.{List, [], ◌∷◌, ◌++◌, append_assoc}
-use lib.ListN.{length, take, drop, get_or, set, length-append}
-use lib.Seq.{drop-drop, paste-suc}
+use lib.ListN.{length, drop, length-append}
+use lib.Seq.{drop-drop}
 use Rattle.rules.specs.Record.{Rec, width, words, all_words}
 
 pub words_append : (rs ss : List Rec) → all_words (rs ++ ss) ≡ all_words rs ++ all_words ss
@@ -28,10 +26,3 @@ room_two rs ss room =
     ∙ append_assoc (all_words rs) (all_words ss) (drop (width * length (rs ++ ss)) room)
     ∙ ap (λ (k : ℕ). all_words rs ++ (all_words ss ++ drop k room)) e
     ∙ ap (λ (l : List ℕ). all_words rs ++ (all_words ss ++ l)) (sym (drop-drop (width * length ss) (width * length rs) room))
-
--- a turn of the copy of s over d
-pub copy_next : (d s : List ℕ) (k : ℕ) → k < length d → k < length s
-    → set (take k s ++ drop k d) k (get_or s k 0) ≡ take (k + 1) s ++ drop (k + 1) d
-copy_next d s k h g =
-    let p = paste-suc d 0 s k 0 (rw zero-add h) g in
-    rw add-one (simp zero-add at p)

@@ -2,8 +2,8 @@
 use Rattle.std.specs.Prelude.{ℕ, zero, suc, ◌*◌, ◌≤◌, ◌≡◌, List, [], ◌∷◌, length, drop, get_or}
 use Rattle.std.proofs.Math.Option.{none, some}
 use Rattle.rules.specs.Record.{Rec, width}
-use Rattle.rules.specs.Joined.{raise_all}
-use Rattle.rules.specs.Outcome.{number_of, refusal, all_zero, cleared, work_by}
+use Rattle.rules.specs.Joined.{no_tally, raise_all}
+use Rattle.rules.specs.Outcome.{number_of, refusal, cleared, work_by}
 use Rattle.rules.specs.Calls.{DoneWithWork, checks_with_work}
 use Rattle.rules.specs.declared.Refusal.{Refusal}
 use Rattle.rules.specs.declared.Outcome.TheVariants.{Listed, Refused}
@@ -43,14 +43,14 @@ pub record Lists (rs : List Rec) (t tally work room : List ℕ) (a : Answer) (ro
 
 -- One numbered refusal, the one that this table gives for the file t with the list rs: "A refusal writes no answer; its tally is all
 -- zero", and the work room is as 01 says.
-pub record Refuses (rs : List Rec) (t tally : List ℕ) (why : Refusal) (work room : List ℕ) (a : Answer) (room' work' : List ℕ) : Type 0 where
+pub record Refuses (rs : List Rec) (t : List ℕ) (why : Refusal) (work room : List ℕ) (a : Answer) (room' work' : List ℕ) : Type 0 where
   pub given : refusal (checks_with_work rs t work room) ≡ some why
   pub outcome : a.outcome ≡ Refused why
   pub numbered : (1 ≤ number_of why) × (number_of why ≤ 11)
-  pub no_counts : a.tally ≡ all_zero tally
+  pub no_counts : a.tally ≡ no_tally
   pub no_warning : room' ≡ room
   pub work_room : work' ≡ work_by (some why) work
 
 pub data WarnedOrRefused (rs : List Rec) (t tally work room : List ℕ) (a : Answer) (room' work' : List ℕ) : Type 0 where
   warned : Lists rs t tally work room a room' work' → WarnedOrRefused rs t tally work room a room' work'
-  refused : (why : Refusal) → Refuses rs t tally why work room a room' work' → WarnedOrRefused rs t tally work room a room' work'
+  refused : (why : Refusal) → Refuses rs t why work room a room' work' → WarnedOrRefused rs t tally work room a room' work'

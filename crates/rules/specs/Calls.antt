@@ -8,10 +8,8 @@ use Rattle.rules.specs.Names.{names_list}
 use Rattle.rules.specs.Flow.{flow_list}
 use Rattle.rules.specs.Incompatible.{incompatible_list}
 use Rattle.rules.specs.Dubious.{dubious_list}
-use Rattle.rules.specs.Profile.{profile_list}
-use Rattle.rules.specs.Joined.{lint_list, profiled_list, no_tally, no_full_tally}
+use Rattle.rules.specs.Joined.{lint_list, no_tally}
 use Rattle.rules.specs.Outcome.{Check, the_file, work_room, answer_room, refusal, answer_by, room_by, work_by}
-use Rattle.rules.specs.declared.Profile.{Profile}
 use Rattle.rules.specs.declared.Answer.{Answer}
 
 -- the answer, and what stands in the answer room afterwards
@@ -54,14 +52,6 @@ incompatible_call t room tally = done (incompatible_list t) t room tally
 abbrev pub dubious_call : Mode → List ℕ → List ℕ → List ℕ → Done
 dubious_call mode t room tally = done (dubious_list mode t) t room tally
 
--- 02, §10: "Add a pass for them"
-abbrev pub profile_call : List ℕ → List ℕ → List ℕ → Done
-profile_call t room tally = done (profile_list t) t room tally
-
 -- "The joined call gives names, flow, incompatible, dubious": its counts start at zero
 abbrev pub lint_call : Mode → List ℕ → List ℕ → List ℕ → DoneWithWork
 lint_call mode t work room = done_with_work (lint_list mode t) t work room no_tally
-
--- the same with the profile or without, and the counts of all codes
-abbrev pub profiled_call : Profile → Mode → List ℕ → List ℕ → List ℕ → DoneWithWork
-profiled_call chosen mode t work room = done_with_work (profiled_list chosen mode t) t work room no_full_tally

@@ -1,10 +1,10 @@
--- The codes: 01's and 02's severity of each; the short name that the Rust gives it, of 18 to 22 ours. Assumes nothing.
+-- The seventeen codes: 01's severity of each, and the short name that the Rust gives it. Assumes nothing.
 use Rattle.std.specs.Prelude.{ℕ, Bool, true, false, ◌||◌, List, [], ◌∷◌, eqb}
 use Prim.Native.String.{String}
 use Rattle.tree.specs.Bytes.{ascii}
 use Rattle.rules.specs.Visit.{look}
 
--- "Of all codes 1, 2, 3, 5, 10 and 11 have severity disabled, the rest warning." 02, §10: "Codes 18 to 22 .., severity warning"
+-- "Of all codes 1, 2, 3, 5, 10 and 11 have severity disabled, the rest warning."
 abbrev pub disabled : ℕ → Bool
 disabled c = eqb c 1 || (eqb c 2 || (eqb c 3 || (eqb c 5 || (eqb c 10 || eqb c 11))))
 
@@ -17,7 +17,6 @@ short_names =
     ∷ (11, "redundant-continue") ∷ (12, "misplaced-load") ∷ (13, "no-effect")
     ∷ (14, "incompatible-type-check") ∷ (15, "duplicate-top-level-assign")
     ∷ (16, "duplicate-key") ∷ (17, "ident-as-statement")
-    ∷ (18, "top-level-flow") ∷ (19, "return-outside-def") ∷ (20, "jump-outside-loop") ∷ (21, "nested-load") ∷ (22, "duplicate-parameter")
     ∷ []
 
 -- no other number is a code: it has no name

@@ -1,4 +1,4 @@
--- More files with their lists, beside the starred ones (Known): every code of 1 to 17 that those don't show, the five loops that are taken twice,
+-- More files with their lists, beside the starred ones (Known): every code that those don't show, the five loops that are taken twice,
 -- 01's 47 bytes, both reasons of 02, §11, whole floats of every size (02, §2), both versions (02, §9), releases of a
 -- host (02, §13), nodes that share span and name (02, §4), and each limit at its number and one past it.
 -- Assumes nothing.

@@ -8,7 +8,6 @@ pub mod Flow
 pub mod Incompatible
 pub mod Dialect
 pub mod Dubious
-pub mod Profile
 pub mod Joined
 pub mod Outcome
 pub mod Calls
@@ -21,4 +20,3 @@ pub mod code
 pub mod Codes
 pub mod Known
 pub mod Examples
-pub mod ProfileExamples

@@ -5,12 +5,11 @@ use Rattle.tree.specs.Judge as tree
 use Rattle.tree.specs.declared.Judged.{Judged}
 use Rattle.tree.specs.declared.Judged.TheVariants.{Valid, Refused as Unfit}
 use Rattle.rules.specs.Record.{Rec, width, all_words, or_else}
-use Rattle.rules.specs.Joined.{raise_all, widened}
+use Rattle.rules.specs.Joined.{no_tally, raise_all}
 use Rattle.rules.specs.declared.Refusal.{Refusal}
 use Rattle.rules.specs.declared.Refusal.TheVariants.{Tree, WorkRoom, AnswerRoom, OtherRoom}
 use Rattle.rules.specs.declared.Outcome.TheVariants.{Listed, Refused}
 use Rattle.rules.specs.declared.Answer.{Answer}
-use Rattle.rules.specs.declared.FullAnswer.{FullAnswer}
 
 -- 01's number and place of each refusal; 11's place is "records needed", 12's what the other room needs (02, §1)
 abbrev pub number_of : Refusal → ℕ
@@ -71,22 +70,10 @@ in_turn (c ∷ (d ∷ cs)) = ltb (turn c) (turn d) && in_turn (d ∷ cs)
 
 -- ---- what a call answers and leaves, by its refusal
 
--- as many counts, all zero
-abbrev pub all_zero : List ℕ → List ℕ
-all_zero tally = replicate (length tally) 0
-
 -- "its tally is all zero" on a refusal; else how many records the list has, and the counts with each record's code raised
 unfoldable pub answer_by : Option Refusal → List Rec → List ℕ → Answer
-answer_by (some why) rs tally = record { outcome = Refused why; tally = all_zero tally }
+answer_by (some why) rs tally = record { outcome = Refused why; tally = no_tally }
 answer_by none rs tally = record { outcome = Listed (length rs); tally = raise_all rs tally }
-
--- "the tally has twenty-two counts": such an answer, told as every answer is
-abbrev pub in_full : FullAnswer → Answer
-in_full a = record { outcome = a.outcome; tally = a.tally }
-
--- the same answer with the counts of all codes
-abbrev pub wide : Answer → Answer
-wide a = record { outcome = a.outcome; tally = widened a.tally }
 
 -- "A refusal writes no answer"; "answer room past the last record" stays
 unfoldable pub room_by : Option Refusal → List Rec → List ℕ → List ℕ

@@ -1,7 +1,7 @@
 -- 01, "Record": "eight u32: code, begin, end, value number (65535: none), second span, third span (0 0 where absent)". 02, §4: "Each
 -- record gains two numbers after its present eight: the node warned and the node that the second span came from, 65535 where none."
 -- Assumes nothing.
-use Rattle.std.specs.Prelude.{ℕ, ◌<◌, Bool, true, false, List, [], ◌∷◌, ◌++◌}
+use Rattle.std.specs.Prelude.{ℕ, Bool, true, false, List, [], ◌∷◌, ◌++◌}
 use Rattle.std.proofs.Math.Option.{Option, none, some}
 use Rattle.tree.specs.Forest.{Spot, Head}
 
@@ -93,8 +93,3 @@ Each P (x ∷ xs) = P x × Each P xs
 abbrev pub keep : {A : Type 0} → (A → Bool) → List A → List A
 keep p [] = []
 keep p (x ∷ xs) = elim (p x) [ true ↦ x ∷ keep p xs | false ↦ keep p xs ]
-
--- each is less than all that follow it
-abbrev pub Ascending : List ℕ → Type 0
-Ascending [] = Unit {0}
-Ascending (c ∷ cs) = Each (λ d. c < d) cs × Ascending cs

@@ -1,3 +1,2 @@
 -- For the engines and their laws: nobody has to believe it.
 pub mod Marks
-pub mod Single

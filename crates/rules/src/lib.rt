@@ -5,15 +5,12 @@ ghost use Rattle.std.specs.Prelude.{◌≡◌};
 ghost use Rattle.rules.specs.Incompatible.{allowance, free};
 ghost use Rattle.rules.specs.Outcome.{number_of, place_of};
 
-// The words of a record; the counts of the joined call's tally; those of all codes, the profile's too, and the last code; the words of work
-// room that names needs.
+// The words of a record; the counts of a tally, and the last code; the words of work room that names needs.
 pub const WIDTH: usize = 10;
 
 pub const CODES: usize = 17;
 
-pub const ALL_CODES: usize = 22;
-
-pub const LAST_CODE: u32 = ALL_CODES as u32;
+pub const LAST_CODE: u32 = CODES as u32;
 
 pub const WORK_WORDS: usize = 32768;
 
@@ -44,13 +41,6 @@ impl Allowance {
             Allowance::Always => true,
         }
     }
-}
-
-// Whether the stricter profile is chosen (02, §10).
-#[derive(Clone, Copy)]
-pub enum Profile {
-    Off,
-    On,
 }
 
 // Why a call is refused: the tree, the work room, the answer room with the records that it needs, or another lent room with what it needs.
@@ -100,11 +90,4 @@ pub enum Outcome {
 pub struct Answer {
     pub outcome: Outcome,
     pub tally: [usize; CODES],
-}
-
-// An answer with the counts of all codes.
-#[derive(Clone, Copy)]
-pub struct FullAnswer {
-    pub outcome: Outcome,
-    pub tally: [usize; ALL_CODES],
 }

@@ -3,7 +3,7 @@
 use Prim.Native.Nat.{ℕ, ◌+◌, ◌*◌, ◌≤◌, ◌<◌}
 use native.Mathlib.Omega.{arith}
 use mathlib.Core.Path.{◌≡◌, refl, ap, ◌∙◌}
-use mathlib.Core.List.{List, [], ◌∷◌, map, ◌++◌}
+use mathlib.Core.List.{List, map, ◌++◌}
 use mathlib.Core.Logic.{◌⊎◌, inl, inr}
 use mathlib.Core.Option.{none, some}
 use lib.ListN.{length, take, drop, length-append, length-drop}
@@ -15,17 +15,14 @@ use Rattle.tree.specs.declared.Judged.{Judged}
 use Rattle.tree.specs.declared.Judged.TheVariants.{Valid, Refused as Unfit}
 use Rattle.tree.specs.declared.Mode.{Mode}
 use Rattle.rules.specs.Record.{Rec, width, all_words, Each}
-use Rattle.rules.specs.Joined.{lint_list, profiled_list, no_full_tally, tally_of, full_tally_of}
+use Rattle.rules.specs.Joined.{lint_list, no_tally, tally_of}
 use Rattle.rules.specs.Outcome.{number_of, work_words, room_by, work_by, cleared}
-use Rattle.rules.specs.declared.Profile.{Profile}
-use Rattle.rules.specs.declared.Profile.TheVariants.{Off}
 use Rattle.rules.specs.declared.Refusal.{Refusal}
 use Rattle.rules.specs.declared.Refusal.TheVariants.{Tree, WorkRoom, AnswerRoom, OtherRoom}
 use Rattle.rules.proofs.Answered.{short_or_not, unfit, fit, work_short, work_enough, room_short, room_enough, other_short, other_enough, all_passed, filled}
 use Rattle.rules.proofs.Called.{one_outcome, tree_numbered, filled_records, filled_past, filled_long}
-use Rattle.spans.proofs.Whole.{file_fit, file_ordinary}
+use Rattle.spans.proofs.Whole.{file_fit}
 use Rattle.json_text.specs.Utf8.{Utf8}
-use Rattle.json_text.specs.Text.{text}
 use Rattle.json_text.specs.Grammar.{Name, Is}
 use Rattle.json_text.proofs.Sound.{json_text}
 use Rattle.json_text.proofs.Encoded.{json_utf8}
@@ -37,8 +34,7 @@ use Rattle.sarif.specs.declared.Sizes.{Sizes}
 use Rattle.sarif.specs.declared.Outcome.TheVariants.{Logged, Refused}
 use Rattle.sarif.specs.declared.Answer.{Answer}
 use Rattle.sarif_log.proofs.ReadBack.{read_back}
-use Rattle.sarif_log.proofs.Seventeen.{seventeen_log}
-use Rattle.sarif_log.proofs.Size.{file_log_size, file_full_log_size}
+use Rattle.sarif_log.proofs.Size.{file_log_size}
 use Rattle.sarif.proofs.sarif.Reads as contract
 
 -- ---- a call that gives the list rs of the file t
@@ -49,7 +45,7 @@ module _ (rs : List Rec) (t work room output : List ℕ) (a : Answer) (work' roo
       → Refuses rs t why work room output a work' room' output'
   unfolding sarif_of answer_by room_by output_by
   refuses why n e =
-      let d : Gives (record { answer = record { outcome = Refused why; tally = no_full_tally }; work = work_by (some why) work; room = room; output = output })
+      let d : Gives (record { answer = record { outcome = Refused why; tally = no_tally }; work = work_by (some why) work; room = room; output = output })
       a work' room' output' = gives ∙ rw e in
       record {
         is_given = e;
@@ -67,7 +63,7 @@ module _ (rs : List Rec) (t work room output : List ℕ) (a : Answer) (work' roo
   logs l h e =
       let s = log t rs in
       let d : Gives (record {
-        answer = record { outcome = Logged (record { records = length rs; bytes = length s }); tally = full_tally_of rs };
+        answer = record { outcome = Logged (record { records = length rs; bytes = length s }); tally = tally_of rs };
         work = cleared work;
         room = filled rs room;
         output = s ++ drop (length s) output;
@@ -139,14 +135,6 @@ module _ (rs : List Rec) (t work room output : List ℕ) (a : Answer) (work' roo
       go (output_end f e r o l) = (f, e)
       go (log_end f e l) = (f, e)
 
-  -- the bytes that it says
-  pub log_left : (n : Sizes) → a.outcome ≡ Logged n → take n.bytes output' ≡ log t rs
-  log_left n i = go logs_or_refuses
-    where
-      go : LoggedOrRefused rs t work room output a work' room' output' → take n.bytes output' ≡ log t rs
-      go (logged l) = let m : n.bytes ≡ length (log t rs) = cc (l.outcome, i) in rw m l.written
-      go (refused why l) = let z : ◌≡◌ {A = ℕ} 0 1 = cc (l.outcome, i) in absurd (omega arith)
-
   -- 12 is given only where the list has room and the log has none
   short_of : (n : ℕ) → a.outcome ≡ Refused (OtherRoom n)
       → ((f : Facts) × (judged t ≡ Valid f)) × (width * length rs ≤ length room) × (length output < length (log t rs))
@@ -164,65 +152,58 @@ module _ (rs : List Rec) (t work room output : List ℕ) (a : Answer) (work' roo
 -- every log is a JSON text
 pub log_json : (t : List ℕ) (rs : List Rec) → Is Name.JSONText (log t rs)
 unfolding log
-log_json t rs = json_text (sarif_log t (full_tally_of rs) rs)
+log_json t rs = json_text (sarif_log t (tally_of rs) rs)
 
 -- What the contract of sarif says, as the checker reads it (Post: of the arguments a, the result r and the lent words s afterwards):
 -- sarif-call.
 pub promised : (κs : _) (a : _) (r : _) (s : _) → contract.Post κs a r s
-    → Gives (sarif_call a.1.1.0 a.1.0 a.0.now a.1.1.1.0.now a.1.1.1.1.0.now a.1.1.1.1.1.0.now) r
-    s.1.1.1.0.now s.1.1.1.1.0.now s.1.1.1.1.1.0.now
+    → Gives (sarif_call a.1.0 a.0.now a.1.1.0.now a.1.1.1.0.now a.1.1.1.1.0.now) r
+    s.1.1.0.now s.1.1.1.0.now s.1.1.1.1.0.now
 promised κs a r s p = p
 
-module _ (chosen : Profile) (mode : Mode) (t work room output : List ℕ) (a : Answer) (work' room' output' : List ℕ)
-    (gives : Gives (sarif_call chosen mode t work room output) a work' room' output') where
-  abbrev rs : List Rec
-  rs = profiled_list chosen mode t
-
+module _ (mode : Mode) (t work room output : List ℕ) (a : Answer) (work' room' output' : List ℕ)
+    (gives : Gives (sarif_call mode t work room output) a work' room' output') where
   -- "Every byte string handed in as a tree gets warnings or one numbered refusal", 1 to 12: a log, or neither a record nor a byte
-  pub logged_or_refused : LoggedOrRefused (profiled_list chosen mode t) t work room output a work' room' output'
-  logged_or_refused = logs_or_refuses rs t work room output a work' room' output' gives
+  pub logged_or_refused : LoggedOrRefused (lint_list mode t) t work room output a work' room' output'
+  logged_or_refused = logs_or_refuses (lint_list mode t) t work room output a work' room' output' gives
 
   -- "Reading the log back .. gives the same codes and first spans in order": of the bytes that the call leaves
-  pub sarif_read_back : (n : Sizes) → a.outcome ≡ Logged n → read (take n.bytes output') ≡ map found (profiled_list chosen mode t)
-  sarif_read_back n i =
-      let v = valid_where_logged rs t work room output a work' room' output' gives n i in
-      rw (log_left rs t work room output a work' room' output' gives n i) (read_back t rs (file_fit t v.0 v.1 chosen mode))
+  pub sarif_read_back : (n : Sizes) → a.outcome ≡ Logged n → read (take n.bytes output') ≡ map found (lint_list mode t)
+  sarif_read_back n i = go logged_or_refused
+    where
+      rs : List Rec
+      rs = lint_list mode t
+
+      go : LoggedOrRefused rs t work room output a work' room' output' → read (take n.bytes output') ≡ map found rs
+      go (logged l) =
+          let m : n.bytes ≡ length (log t rs) = cc (l.outcome, i) in
+          let v = valid_where_logged rs t work room output a work' room' output' gives n i in
+          rw (m, l.written) (read_back t rs (file_fit t v.0 v.1 mode))
+      go (refused why l) = let z : ◌≡◌ {A = ℕ} 0 1 = cc (l.outcome, i) in absurd (omega arith)
 
   -- "Every output is a JSON text by RFC 8259's grammar", so in UTF-8: of the bytes that the call leaves
   pub sarif_json : (n : Sizes) → a.outcome ≡ Logged n → Is Name.JSONText (take n.bytes output')
-  sarif_json n i = rw (log_left rs t work room output a work' room' output' gives n i) (log_json t rs)
+  sarif_json n i = go logged_or_refused
+    where
+      rs : List Rec
+      rs = lint_list mode t
+
+      go : LoggedOrRefused rs t work room output a work' room' output' → Is Name.JSONText (take n.bytes output')
+      go (logged l) = let m : n.bytes ≡ length (log t rs) = cc (l.outcome, i) in rw (m, l.written) (log_json t rs)
+      go (refused why l) = let z : ◌≡◌ {A = ℕ} 0 1 = cc (l.outcome, i) in absurd (omega arith)
 
   pub sarif_utf8 : (n : Sizes) → a.outcome ≡ Logged n → Utf8 (take n.bytes output')
   sarif_utf8 n i = json_utf8 (sarif_json n i)
 
   -- "two outcomes that satisfy it are proved equal"
-  pub sarif_one : (b : Answer) (work'' room'' output'' : List ℕ) → Gives (sarif_call chosen mode t work room output) b work'' room'' output''
+  pub sarif_one : (b : Answer) (work'' room'' output'' : List ℕ) → Gives (sarif_call mode t work room output) b work'' room'' output''
       → ◌≡◌ {A = Done} (record { answer = a; work = work'; room = room'; output = output' })
       (record { answer = b; work = work''; room = room''; output = output'' })
   sarif_one b work'' room'' output'' other = one_outcome gives other
 
-  -- with room for k records, 2,026 + 2,222 k bytes are never too few: 4,552,682 for 2,048 records
-  pub output_enough : (k : ℕ) → length room < width * (k + 1) → 2026 + 2222 * k ≤ length output
-      → Each (λ w. w < 4294967296) (all_words (profiled_list chosen mode t)) → (n : ℕ) → a.outcome ≡ Refused (OtherRoom n) → ⊥
+  -- with room for k records, 1,617 + 2,222 k bytes are never too few: 4,552,273 for 2,048 records
+  pub output_enough : (k : ℕ) → length room < width * (k + 1) → 1617 + 2222 * k ≤ length output → Each (λ w. w < 4294967296) (all_words (lint_list mode t))
+      → (n : ℕ) → a.outcome ≡ Refused (OtherRoom n) → ⊥
   output_enough k h l u n i =
-      let d = short_of rs t work room output a work' room' output' gives n i in
-      omega (arith, file_full_log_size t d.0.0 d.0.1 chosen mode u, d.1, d.2)
-
--- ---- 02, §10: "The joined call is unchanged unless the profile is chosen"
-
-module _ (mode : Mode) (t work room output : List ℕ) (a : Answer) (work' room' output' : List ℕ)
-    (gives : Gives (sarif_call Off mode t work room output) a work' room' output') where
-  -- without it the log is the one of seventeen counts: of the bytes that the call leaves
-  pub off_log : (n : Sizes) → a.outcome ≡ Logged n
-      → take n.bytes output' ≡ text (sarif_log t (tally_of (lint_list mode t)) (lint_list mode t)) (0x0A ∷ [])
-  off_log n i =
-      let v = valid_where_logged (lint_list mode t) t work room output a work' room' output' gives n i in
-      log_left (lint_list mode t) t work room output a work' room' output' gives n i
-      ∙ seventeen_log t (lint_list mode t) (file_ordinary t v.0 v.1 mode)
-
-  -- .. and 1,617 + 2,222 k bytes are never too few: 4,552,273 for 2,048 records
-  pub off_enough : (k : ℕ) → length room < width * (k + 1) → 1617 + 2222 * k ≤ length output
-      → Each (λ w. w < 4294967296) (all_words (lint_list mode t)) → (n : ℕ) → a.outcome ≡ Refused (OtherRoom n) → ⊥
-  off_enough k h l u n i =
       let d = short_of (lint_list mode t) t work room output a work' room' output' gives n i in
       omega (arith, file_log_size t d.0.0 d.0.1 mode u, d.1, d.2)

@@ -1,5 +1,5 @@
 -- What each return of the call shows. Assumes nothing.
-use Prim.Native.Nat.{ℕ, ◌+◌, ◌*◌, ◌/◌, ◌≤◌, ◌<◌}
+use Prim.Native.Nat.{ℕ, zero, suc, ◌+◌, ◌*◌, ◌/◌, ◌≤◌, ◌<◌}
 use native.Mathlib.Omega.{arith}
 use native.Mathlib.Nat.{le-div_iff_mul-le, div-lt_iff_lt-mul}
 use mathlib.Core.Path.{◌≡◌, refl, sym, ap, ap₂, subst, ◌∙◌}
@@ -13,18 +13,17 @@ use Rattle.tree.specs.declared.Mode.{Mode}
 use Rattle.tree.specs.declared.Judged.{Judged}
 use Rattle.tree.specs.declared.Judged.TheVariants.{Valid, Refused as Unfit}
 use Rattle.rules.specs.Record.{Rec, width, all_words}
-use Rattle.rules.specs.Joined.{profiled_list, no_full_tally}
+use Rattle.rules.specs.Joined.{lint_list, no_tally}
 use Rattle.rules.specs.Outcome.{answer_room, other_room, work_words, refusal, room_by, work_by, cleared}
-use Rattle.rules.specs.Calls.{DoneWithWork, profiled_call}
+use Rattle.rules.specs.Calls.{DoneWithWork, lint_call}
 use Rattle.rules.specs.Afterwards as after
 use Rattle.rules.specs.Afterwards.{records_in}
-use Rattle.rules.specs.declared.Profile.{Profile}
 use Rattle.rules.specs.declared.Answer.{Answer as Lint-answer}
 use Rattle.rules.specs.declared.Refusal.{Refusal}
 use Rattle.rules.specs.declared.Refusal.TheVariants.{Tree, WorkRoom, AnswerRoom, OtherRoom}
 use Rattle.rules.specs.declared.Outcome.TheVariants.{Listed as Lint-listed, Refused as Lint-refused}
 use Rattle.rules.proofs.Words.{length_words}
-use Rattle.rules.proofs.Whole.{file_profiled_few}
+use Rattle.rules.proofs.Whole.{file_lint_few}
 use Rattle.rules.proofs.Answered.{short_or_not, unfit, fit, work_short, work_enough, room_short, room_enough, other_short, other_enough, all_passed, refused as lint-refused-as, listed, filled, work_unfit, work_lacking, work_listed}
 use Rattle.rules.proofs.Called.{valid_where_listed, room_where_listed, length_records}
 use Rattle.lint.proofs.Demands as demands
@@ -33,7 +32,6 @@ use Rattle.page.specs.Page.{Page, page, writes, Wrote}
 use Rattle.json_text.specs.Text.{text}
 use Rattle.page.proofs.Pages.{writes_length, written, counted}
 use Rattle.sarif_log.specs.Log.{sarif_log, log}
-use Rattle.sarif_log.specs.Pieces.{piece_most}
 use Rattle.sarif.specs.Calls.{checks, answer_by, output_by, Done, sarif_of, sarif_call}
 use Rattle.sarif.specs.Telling.{Listed, why_of, Tells}
 use Rattle.sarif.specs.declared.Outcome.{Outcome}
@@ -55,7 +53,7 @@ module _ (t list : List ℕ) (n : ℕ) (tally : List ℕ) (h : Listed t list n t
   long = length_records n list
 
   -- 11
-  pub short_room : (a : Answer) → length room / width < n → a.outcome ≡ Refused (AnswerRoom n) → a.tally ≡ no_full_tally
+  pub short_room : (a : Answer) → length room / width < n → a.outcome ≡ Refused (AnswerRoom n) → a.tally ≡ no_tally
       → Tells rs t room output a room output
   unfolding answer_by room_by output_by
   short_room a l p q =
@@ -70,7 +68,7 @@ module _ (t list : List ℕ) (n : ℕ) (tally : List ℕ) (h : Listed t list n t
         room_enough _ (length rs) (length room) (omega (arith, long))
 
     -- a function that wrote the log counted its bytes
-    module _ (o o' : List ℕ) (needed : ℕ) (w : Wrote o 0 o' needed (piece_most + 2402 * n) (λ rest. text (sarif_log t tally rs) (0x0A ∷ rest))) where
+    module _ (o o' : List ℕ) (needed : ℕ) (w : Wrote o 0 o' needed (5000 + 2402 * n) (λ rest. text (sarif_log t tally rs) (0x0A ∷ rest))) where
       log_wrote : page o' needed ≡ writes (page o 0) (log t rs)
       unfolding writes log
       log_wrote = w.so [] ∙ ap (λ (y : List ℕ). writes (page o 0) (text (sarif_log t y rs) (0x0A ∷ []))) h.counts
@@ -91,8 +89,8 @@ module _ (t list : List ℕ) (n : ℕ) (tally : List ℕ) (h : Listed t list n t
 
     -- 12
     pub short_output : (a : Answer) (e : List ℕ) (needed : ℕ)
-        → Wrote [] 0 e needed (piece_most + 2402 * n) (λ rest. text (sarif_log t tally rs) (0x0A ∷ rest)) → length (e ++ output) < needed
-        → a.outcome ≡ Refused (OtherRoom needed) → a.tally ≡ no_full_tally → Tells rs t room output a room (e ++ output)
+        → Wrote [] 0 e needed (5000 + 2402 * n) (λ rest. text (sarif_log t tally rs) (0x0A ∷ rest)) → length (e ++ output) < needed
+        → a.outcome ≡ Refused (OtherRoom needed) → a.tally ≡ no_tally → Tells rs t room output a room (e ++ output)
     unfolding answer_by room_by output_by
     short_output a e needed w g p q =
         let k = bytes_needed [] e needed w in
@@ -107,16 +105,16 @@ module _ (t list : List ℕ) (n : ℕ) (tally : List ℕ) (h : Listed t list n t
 
     -- the log
     pub all_told : (a : Answer) (e room' output' : List ℕ) (needed m : ℕ)
-        → Wrote [] 0 e needed (piece_most + 2402 * n) (λ rest. text (sarif_log t tally rs) (0x0A ∷ rest)) → needed ≤ length (e ++ output)
-        → Wrote (e ++ output) 0 output' m (piece_most + 2402 * n) (λ rest. text (sarif_log t tally rs) (0x0A ∷ rest))
+        → Wrote [] 0 e needed (5000 + 2402 * n) (λ rest. text (sarif_log t tally rs) (0x0A ∷ rest)) → needed ≤ length (e ++ output)
+        → Wrote (e ++ output) 0 output' m (5000 + 2402 * n) (λ rest. text (sarif_log t tally rs) (0x0A ∷ rest))
         → room' ≡ take (width * n) list ++ drop (width * n) room → a.outcome ≡ Logged (record { records = n; bytes = needed }) → a.tally ≡ tally
         → Tells rs t room output a room' output'
     unfolding answer_by room_by output_by
     all_told a e room' output' needed m w g x c p q =
         let k = bytes_needed [] e needed w in
         let l : needed ≤ length output = rw (no_front e output (same_room [] e needed w)) at g in
-        let v : Wrote output 0 output' m (piece_most + 2402 * n) (λ rest. text (sarif_log t tally rs) (0x0A ∷ rest))
-        = subst (λ (o : List ℕ). Wrote o 0 output' m (piece_most + 2402 * n) (λ rest. text (sarif_log t tally rs) (0x0A ∷ rest))) (no_front e output (same_room [] e needed w)) x in
+        let v : Wrote output 0 output' m (5000 + 2402 * n) (λ rest. text (sarif_log t tally rs) (0x0A ∷ rest))
+        = subst (λ (o : List ℕ). Wrote o 0 output' m (5000 + 2402 * n) (λ rest. text (sarif_log t tally rs) (0x0A ∷ rest))) (no_front e output (same_room [] e needed w)) x in
         let z : why_of rs t room output ≡ none = enough ∙ (other_enough _ (length (log t rs)) (length output) (omega arith) ∙ all_passed) in
         record {
           answer = rw z
@@ -125,7 +123,7 @@ module _ (t list : List ℕ) (n : ℕ) (tally : List ℕ) (h : Listed t list n t
           output_after = rw z (whole_log output output' m v (omega arith));
         }
 
--- ---- after the joined call, with room for 11,264 records
+-- ---- after the joined call, with room for 10,240 records
 
 -- names ran before 11, before 12 and before the log
 work_cleared : (n lent m bytes : ℕ) (work : List ℕ) → work_by (refusal (answer_room n lent ∷ other_room m bytes ∷ [])) work ≡ cleared work
@@ -138,23 +136,23 @@ work_cleared n lent m bytes work = go (short_or_not lent (width * n)) (short_or_
     go (inr h) (inl o) = rw (room_enough (other_room m bytes ∷ []) n lent h, other_short [] m bytes o)
     go (inr h) (inr o) = rw (room_enough (other_room m bytes ∷ []) n lent h, other_enough [] m bytes o, all_passed)
 
-module _ (chosen : Profile) (mode : Mode) (t work list : List ℕ) (ample : length list ≡ width * 11264) (a : Lint-answer) (list' work' : List ℕ)
-    (gives : after.Gives (profiled_call chosen mode t work list) a list' work') where
+module _ (mode : Mode) (t work list : List ℕ) (ample : length list ≡ width * 10240) (a : Lint-answer) (list' work' : List ℕ)
+    (gives : after.Gives (lint_call mode t work list) a list' work') where
   abbrev whole : List Rec
-  whole = profiled_list chosen mode t
+  whole = lint_list mode t
 
-  outcome_is : {b : Lint-answer} {o w : List ℕ} → profiled_call chosen mode t work list ≡ record { answer = b; room = o; work = w } → a.outcome ≡ b.outcome
+  outcome_is : {b : Lint-answer} {o w : List ℕ} → lint_call mode t work list ≡ record { answer = b; room = o; work = w } → a.outcome ≡ b.outcome
   outcome_is d = ap (λ (x : DoneWithWork). x.answer.outcome) (gives ∙ d)
 
   module _ (n : ℕ) (i : a.outcome ≡ Lint-listed n) where
     got : records_in n list' ≡ whole
-    got = demands.profiled_records chosen mode t work list a list' work' gives n i
+    got = demands.lint_records mode t work list a list' work' gives n i
 
     valid : (f : Facts) × (judged t ≡ Valid f)
-    valid = valid_where_listed whole t work list no_full_tally a list' work' gives n i
+    valid = valid_where_listed whole t work list no_tally a list' work' gives n i
 
-    few : length whole ≤ 11264
-    few = file_profiled_few t valid.0 valid.1 chosen mode
+    few : length whole ≤ 10240
+    few = file_lint_few t valid.0 valid.1 mode
 
     room_for_all : width * length whole ≤ length list
     room_for_all = omega (arith, few, ample)
@@ -164,12 +162,12 @@ module _ (chosen : Profile) (mode : Mode) (t work list : List ℕ) (ample : leng
       where
         go : (length work < work_words) ⊎ (work_words ≤ length work) → work_words ≤ length work
         go (inl h) =
-            let o = outcome_is (work_lacking whole t work list no_full_tally valid.1 h) in
+            let o = outcome_is (work_lacking whole t work list no_tally valid.1 h) in
             let z : ◌≡◌ {A = ℕ} 0 1 = cc (o, i) in absurd (omega arith)
         go (inr h) = h
 
-    left : after.Gives (record { answer = listed whole no_full_tally; room = filled whole list; work = cleared work }) a list' work'
-    left = gives ∙ work_listed whole t work list no_full_tally valid.1 sufficient room_for_all
+    left : after.Gives (record { answer = listed whole no_tally; room = filled whole list; work = cleared work }) a list' work'
+    left = gives ∙ work_listed whole t work list no_tally valid.1 sufficient room_for_all
 
     many : n ≡ length whole
     many = let l = ap (λ (x : DoneWithWork). x.answer.outcome) left in cc (l, i)
@@ -185,9 +183,9 @@ module _ (chosen : Profile) (mode : Mode) (t work list : List ℕ) (ample : leng
         let s : take (width * n) list' ≡ all_words whole
         = ap₂ (λ (x : ℕ) (y : List ℕ). take x y) k stood ∙ take_front (all_words whole) (drop (width * length whole) list) in
         record {
-          small = listed_small whole t work list no_full_tally a list' work' gives n i;
-          counts = demands.profiled_counts chosen mode t work list a list' work' gives n i;
-          enough = room_where_listed whole t work list no_full_tally a list' work' gives n i;
+          small = listed_small whole t work list no_tally a list' work' gives n i;
+          counts = demands.lint_counts mode t work list a list' work' gives n i;
+          enough = room_where_listed whole t work list no_tally a list' work' gives n i;
           stands = s ∙ sym (ap all_words got);
           most = omega (arith, few, m);
         }
@@ -198,7 +196,7 @@ module _ (chosen : Profile) (mode : Mode) (t work list : List ℕ) (ample : leng
       no_earlier = fit _ valid.1 ∙ work_enough _ (length work) sufficient
 
       pub called_listed : (b : Answer) (room' output' : List ℕ) → Tells (records_in n list') t room output b room' output'
-          → ◌≡◌ {A = Done} (record { answer = b; work = work'; room = room'; output = output' }) (sarif_call chosen mode t work room output)
+          → ◌≡◌ {A = Done} (record { answer = b; work = work'; room = room'; output = output' }) (sarif_call mode t work room output)
       unfolding sarif_of
       called_listed b room' output' tells =
           let d : Tells whole t room output b room' output' = subst (λ (l : List Rec). Tells l t room output b room' output') got tells in
@@ -209,15 +207,15 @@ module _ (chosen : Profile) (mode : Mode) (t work list : List ℕ) (ample : leng
 
   -- ... and where there is none
   pub called_refused : (why : Refusal) → a.outcome ≡ Lint-refused why → (room output : List ℕ) (b : Answer)
-      → b.outcome ≡ Refused why → b.tally ≡ no_full_tally
-      → ◌≡◌ {A = Done} (record { answer = b; work = work'; room = room; output = output }) (sarif_call chosen mode t work room output)
+      → b.outcome ≡ Refused why → b.tally ≡ no_tally
+      → ◌≡◌ {A = Done} (record { answer = b; work = work'; room = room; output = output }) (sarif_call mode t work room output)
   unfolding sarif_of answer_by room_by output_by work_by
   called_refused why i room output b p q = go (judged t) refl (short_or_not (length work) work_words)
     where
       -- a refusal that the joined call gives too
-      same : (other : Refusal) {o w : List ℕ} → profiled_call chosen mode t work list ≡ record { answer = lint-refused-as other no_full_tally; room = o; work = w }
+      same : (other : Refusal) {o w : List ℕ} → lint_call mode t work list ≡ record { answer = lint-refused-as other; room = o; work = w }
           → refusal (checks whole t work room output) ≡ some other → w ≡ work_by (some other) work
-          → ◌≡◌ {A = Done} (record { answer = b; work = work'; room = room; output = output }) (sarif_call chosen mode t work room output)
+          → ◌≡◌ {A = Done} (record { answer = b; work = work'; room = room; output = output }) (sarif_call mode t work room output)
       same other d e w =
           let o = outcome_is d in
           let s : why ≡ other = cc (o, i) in
@@ -225,10 +223,10 @@ module _ (chosen : Profile) (mode : Mode) (t work list : List ℕ) (ample : leng
           rw (e, v, answer_is b (p ∙ ap Refused s) q)
 
       go : (j : Judged) → judged t ≡ j → (length work < work_words) ⊎ (work_words ≤ length work)
-          → ◌≡◌ {A = Done} (record { answer = b; work = work'; room = room; output = output }) (sarif_call chosen mode t work room output)
-      go (Unfit w) e h = same (Tree w) (work_unfit whole t work list no_full_tally e) (unfit _ e) refl
-      go (Valid f) e (inl h) = same WorkRoom (work_lacking whole t work list no_full_tally e h) (fit _ e ∙ work_short _ (length work) h) refl
+          → ◌≡◌ {A = Done} (record { answer = b; work = work'; room = room; output = output }) (sarif_call mode t work room output)
+      go (Unfit w) e h = same (Tree w) (work_unfit whole t work list no_tally e) (unfit _ e) refl
+      go (Valid f) e (inl h) = same WorkRoom (work_lacking whole t work list no_tally e h) (fit _ e ∙ work_short _ (length work) h) refl
       go (Valid f) e (inr h) =
-          let few : length whole ≤ 11264 = file_profiled_few t f e chosen mode in
-          let o = outcome_is (work_listed whole t work list no_full_tally e h (omega (arith, few, ample))) in
+          let few : length whole ≤ 10240 = file_lint_few t f e mode in
+          let o = outcome_is (work_listed whole t work list no_tally e h (omega (arith, few, ample))) in
           let z : ◌≡◌ {A = ℕ} 0 1 = cc (o, i) in absurd (omega arith)

@@ -2,7 +2,7 @@
 use Rattle.std.specs.Prelude.{ℕ, ◌*◌, ◌≤◌, ◌≡◌, List, length, take, drop}
 use Rattle.std.proofs.Math.Option.{Option, none, some}
 use Rattle.rules.specs.Record.{Rec, width}
-use Rattle.rules.specs.Joined.{no_full_tally, full_tally_of}
+use Rattle.rules.specs.Joined.{no_tally, tally_of}
 use Rattle.rules.specs.Outcome.{number_of, refusal, cleared, work_by}
 use Rattle.rules.specs.Afterwards.{records_in}
 use Rattle.sarif_log.specs.Log.{log}
@@ -24,7 +24,7 @@ given rs t work room output = refusal (checks rs t work room output)
 pub record Logs (rs : List Rec) (t work room output : List ℕ) (a : Answer) (work' room' output' : List ℕ) : Type 0 where
   pub none_given : given rs t work room output ≡ none
   pub outcome : a.outcome ≡ Logged (record { records = length rs; bytes = length (log t rs) })
-  pub counts : a.tally ≡ full_tally_of rs
+  pub counts : a.tally ≡ tally_of rs
   pub written : take (length (log t rs)) output' ≡ log t rs
   pub past : drop (length (log t rs)) output' ≡ drop (length (log t rs)) output
   pub as_long : length output' ≡ length output
@@ -38,7 +38,7 @@ pub record Refuses (rs : List Rec) (t : List ℕ) (why : Refusal) (work room out
   pub is_given : given rs t work room output ≡ some why
   pub outcome : a.outcome ≡ Refused why
   pub numbered : (1 ≤ number_of why) × (number_of why ≤ 12)
-  pub no_counts : a.tally ≡ no_full_tally
+  pub no_counts : a.tally ≡ no_tally
   pub no_warning : room' ≡ room
   pub no_log : output' ≡ output
   pub work_room : work' ≡ work_by (some why) work

@@ -1,13 +1,11 @@
--- 02, §1: what a call of sarif answers, and how it leaves the words and bytes that it was lent. With 02, §10's profile or without, the
--- tally has the counts of all codes. Assumes nothing.
+-- 02, §1: what a call of sarif answers, and how it leaves the words and bytes that it was lent. Assumes nothing.
 use Rattle.std.specs.Prelude.{ℕ, List, [], ◌∷◌, ◌++◌, length, drop}
 use Rattle.std.proofs.Math.Option.{Option, none, some}
 use Rattle.tree.specs.Judge.{judged}
 use Rattle.tree.specs.declared.Mode.{Mode}
 use Rattle.rules.specs.Record.{Rec}
-use Rattle.rules.specs.Joined.{profiled_list, no_full_tally, full_tally_of}
+use Rattle.rules.specs.Joined.{lint_list, no_tally, tally_of}
 use Rattle.rules.specs.Outcome.{Check, the_file, work_room, answer_room, other_room, refusal, room_by, work_by}
-use Rattle.rules.specs.declared.Profile.{Profile}
 use Rattle.rules.specs.declared.Refusal.{Refusal}
 use Rattle.sarif_log.specs.Log.{log}
 use Rattle.sarif.specs.declared.Outcome.TheVariants.{Logged, Refused}
@@ -24,8 +22,8 @@ checks rs t work room output =
 
 -- a refusal's tally is all zero
 unfoldable pub answer_by : Option Refusal → List Rec → ℕ → Answer
-answer_by (some why) rs n = record { outcome = Refused why; tally = no_full_tally }
-answer_by none rs n = record { outcome = Logged (record { records = length rs; bytes = n }); tally = full_tally_of rs }
+answer_by (some why) rs n = record { outcome = Refused why; tally = no_tally }
+answer_by none rs n = record { outcome = Logged (record { records = length rs; bytes = n }); tally = tally_of rs }
 
 -- "output unchanged" by a refusal; the bytes past the log stay
 unfoldable pub output_by : Option Refusal → List ℕ → List ℕ → List ℕ
@@ -50,6 +48,5 @@ sarif_of rs t work room output =
       output = output_by why (log t rs) output;
     }
 
--- the list with the profile or without
-abbrev pub sarif_call : Profile → Mode → List ℕ → List ℕ → List ℕ → List ℕ → Done
-sarif_call chosen mode t work room output = sarif_of (profiled_list chosen mode t) t work room output
+abbrev pub sarif_call : Mode → List ℕ → List ℕ → List ℕ → List ℕ → Done
+sarif_call mode t work room output = sarif_of (lint_list mode t) t work room output

@@ -2,7 +2,7 @@
 use Rattle.std.specs.Prelude.{ℕ, ◌*◌, ◌≤◌, ◌≡◌, List, [], ◌∷◌, length, take}
 use Rattle.std.proofs.Math.Option.{Option}
 use Rattle.rules.specs.Record.{Rec, width, all_words}
-use Rattle.rules.specs.Joined.{full_tally_of}
+use Rattle.rules.specs.Joined.{tally_of}
 use Rattle.rules.specs.Outcome.{answer_room, other_room, refusal, room_by}
 use Rattle.rules.specs.Afterwards.{records_in}
 use Rattle.rules.specs.declared.Refusal.{Refusal}
@@ -11,13 +11,13 @@ use Rattle.sarif_log.specs.Pieces.{Small}
 use Rattle.sarif.specs.Calls.{answer_by, output_by}
 use Rattle.sarif.specs.declared.Answer.{Answer}
 
--- n records with their counts, of the file t, in room of 11,264 records at most
+-- n records with their counts, of the file t, in room of 10,240 records at most
 pub record Listed (t list : List ℕ) (n : ℕ) (tally : List ℕ) : Type 0 where
   pub small : Small t
-  pub counts : tally ≡ full_tally_of (records_in n list)
+  pub counts : tally ≡ tally_of (records_in n list)
   pub enough : width * n ≤ length list
   pub stands : take (width * n) list ≡ all_words (records_in n list)
-  pub most : n ≤ 11264
+  pub most : n ≤ 10240
 
 -- what is answered then, and what stands in the lent room afterwards: 11 and 12 are left to check
 abbrev pub why_of : List Rec → List ℕ → List ℕ → List ℕ → Option Refusal

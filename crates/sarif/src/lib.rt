@@ -3,16 +3,16 @@
 #![tactic(auto)]
 
 ghost use Rattle.std.specs.Prelude.{◌≡◌, ◌++◌, ◌≤◌, length, take, drop};
-ghost use Rattle.rules.specs.Joined.{no_full_tally};
+ghost use Rattle.rules.specs.Joined.{no_tally};
 ghost use Rattle.rules.specs.Afterwards.{records_in};
 ghost use Rattle.sarif.specs.Telling.{Listed, Tells};
 ghost use Rattle.sarif.specs.Calls.{sarif_call};
 
-use rules::{ALL_CODES, Outcome as Linted, Profile, Refusal, WIDTH};
+use rules::{CODES, Outcome as Linted, Refusal, WIDTH};
 use tree::Mode;
 
-// The words of the call's own room: no valid file has more than 11,264 records.
-const ROOM: usize = WIDTH * 11264;
+// The words of the call's own room: no valid file has more than 10,240 records.
+const ROOM: usize = WIDTH * 10240;
 
 // What was written: records into the answer room, bytes into the output room.
 #[derive(Clone, Copy)]
@@ -30,20 +30,20 @@ pub enum Outcome {
 #[derive(Clone, Copy)]
 pub struct Answer {
     pub outcome: Outcome,
-    pub tally: [usize; ALL_CODES],
+    pub tally: [usize; CODES],
 }
 
 fn refused(why: Refusal) -> Answer
-    ensures { (result.outcome ≡ Outcome.Refused why) × (result.tally ≡ no_full_tally) }
+    ensures { (result.outcome ≡ Outcome.Refused why) × (result.tally ≡ no_tally) }
 {
-    let zero = [0; ALL_CODES];
+    let zero = [0; CODES];
     Answer {
         outcome: Outcome::Refused(why),
         tally: zero,
     }
 }
 
-fn logged(records: usize, bytes: usize, tally: [usize; ALL_CODES]) -> Answer
+fn logged(records: usize, bytes: usize, tally: [usize; CODES]) -> Answer
     ensures { (result.outcome ≡ Outcome.Logged (record { records = records; bytes = bytes })) × (result.tally ≡ tally) }
 {
     Answer {
@@ -69,7 +69,7 @@ fn tell(
     t: &[u8],
     list: &[u32],
     n: usize,
-    tally: [usize; ALL_CODES],
+    tally: [usize; CODES],
     answer: &mut [u32],
     output: &mut [u8],
 ) -> Answer
@@ -93,15 +93,14 @@ fn tell(
 pub fn sarif(
     t: &[u8],
     mode: Mode,
-    chosen: Profile,
     work: &mut [u16],
     answer: &mut [u32],
     output: &mut [u8],
 ) -> Answer
-    ensures { record { answer = result; work = work.new; room = answer.new; output = output.new } ≡ sarif_call chosen mode t.now work.old answer.old output.old }
+    ensures { record { answer = result; work = work.new; room = answer.new; output = output.new } ≡ sarif_call mode t.now work.old answer.old output.old }
 {
     let mut list = [0u32; ROOM];
-    let a = lint::profiled(t, mode, chosen, work, &mut list);
+    let a = lint::lint(t, mode, work, &mut list);
     let o = a.outcome;
     let tally = a.tally;
     match o {

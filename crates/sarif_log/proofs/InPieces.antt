@@ -9,7 +9,7 @@ use borrow.Author.Tests.{ne_eqb}
 use lib.ListN.{length, drop, get_or, length-append, get_or-append}
 use lib.Seq.{drop-drop, get_or_at}
 use Rattle.rules.specs.Record.{Rec, width}
-use Rattle.rules.specs.Joined.{full_tally_of}
+use Rattle.rules.specs.Joined.{tally_of}
 use Rattle.rules.specs.Afterwards.{record_in, records_in}
 use Rattle.json_text.specs.Text.{comma, text, lines}
 use Rattle.json_text.proofs.Sound.{text_rest}
@@ -36,10 +36,10 @@ all_lines (r ∷ rs) first t tally =
     ∙ ap (λ (l : List ℕ). comma first (0x0A ∷ text (result t tally r) l)) (all_lines rs false t tally)
 
 -- THE PIECES ARE THE LOG
-pub pieces_log : (t : List ℕ) (rs : List Rec) → all_of (pieces t (full_tally_of rs) rs) ≡ log t rs
+pub pieces_log : (t : List ℕ) (rs : List Rec) → all_of (pieces t (tally_of rs) rs) ≡ log t rs
 unfolding pieces log
 pieces_log t rs =
-    ap (λ (l : List ℕ). head (full_tally_of rs) ++ l) (all_lines rs true t (full_tally_of rs)) ∙ log_text t (full_tally_of rs) rs []
+    ap (λ (l : List ℕ). head (tally_of rs) ++ l) (all_lines rs true t (tally_of rs)) ∙ log_text t (tally_of rs) rs []
 
 -- each record has one, and there are two besides
 pub pieces_count : (t tally : List ℕ) (rs : List Rec) → length (pieces t tally rs) ≡ length rs + 2

@@ -1,5 +1,5 @@
 -- Laws that the proofs of the functions cite; theorems of the log: it is read back, its messages are shown as meant, its rules are
--- right, without the profile it is as it was, its size, its pieces.
+-- right, its size, its pieces.
 pub mod Plainly
 pub mod Worded
 pub mod Shapes
@@ -12,7 +12,6 @@ pub mod Filled
 pub mod Present
 pub mod Weight
 pub mod TextSize
-pub mod Seventeen
 pub mod Size
 pub mod InPieces
 pub mod Promised

@@ -3,7 +3,7 @@ use Prim.Native.Nat.{ℕ, ◌<◌}
 use native.Mathlib.Omega.{arith}
 use Prim.Native.String.{String}
 use mathlib.Core.Path.{◌≡◌, refl, ap}
-use mathlib.Core.Bool.{Bool, true, false, cond, not}
+use mathlib.Core.Bool.{Bool, true, false, cond, ◌&&◌, not}
 use mathlib.Core.List.{List, [], ◌∷◌}
 use lib.Dec.{T, eqb, leb, leb→le}
 use borrow.Author.Tests.{ne_eqb}
@@ -22,7 +22,7 @@ use Rattle.codes.specs.Named.{severity_of}
 use Rattle.codes.specs.declared.EvalSeverity.TheVariants.{Disabled, Warning}
 use Rattle.sarif_log.specs.Words.{phrases, reasons, kinds, seconds, thirds, reason, phrase, phrase_of, kind_word, shown, after_phrase, message_text}
 use Rattle.sarif_log.specs.Log.{level, other, related}
-use Rattle.rules.specs.Joined.{all_codes}
+use Rattle.rules.specs.Joined.{codes}
 
 -- ---- numbers that stand in no row
 
@@ -41,9 +41,9 @@ pub no_such_reason : (n : ℕ) → 2 < n → reason 16 n ≡ []
 unfolding reason
 no_such_reason n h = ap ascii (look_none n reasons "" (above n 2 h reasons tt))
 
-pub no_phrase : (c n : ℕ) → all_codes < c → phrase c n ≡ []
+pub no_phrase : (c n : ℕ) → codes < c → phrase c n ≡ []
 unfolding phrase
-no_phrase c n h = rw (look_none c phrases "" (above c all_codes h phrases tt)) (no_reason c n (λ e. omega arith))
+no_phrase c n h = rw (look_none c phrases "" (above c codes h phrases tt)) (no_reason c n (λ e. omega arith))
 
 pub no_kind : (k : ℕ) → 4 < k → kind_word k ≡ []
 unfolding kind_word
@@ -117,8 +117,13 @@ warned true e = absurd (differ e)
 apart : (c n : ℕ) → (c ≡ n → ⊥) → T (not (eqb c n))
 apart c n f = let z : eqb c n ≡ false = ne_eqb c n f in rw z tt
 
-pub no_second : (c : ℕ) → all_codes < c → look c seconds "" ≡ ""
-no_second c h = look_none c seconds "" (above c all_codes h seconds tt)
+pub no_second : (c : ℕ) → (c ≡ 7 → ⊥) → (c ≡ 8 → ⊥) → (c ≡ 15 → ⊥) → (c ≡ 16 → ⊥) → look c seconds "" ≡ ""
+no_second c d e f g =
+    look_none c seconds ""
+    (both (not (eqb c 7)) (not (eqb c 8) && (not (eqb c 15) && (not (eqb c 16) && true))) (apart c 7 d)
+    (both (not (eqb c 8)) (not (eqb c 15) && (not (eqb c 16) && true)) (apart c 8 e)
+    (both (not (eqb c 15)) (not (eqb c 16) && true) (apart c 15 f)
+    (both (not (eqb c 16)) true (apart c 16 g) tt))))
 
 pub no_third : (c : ℕ) → (c ≡ 7 → ⊥) → look c thirds "" ≡ ""
 no_third c d = look_none c thirds "" (both (not (eqb c 7)) true (apart c 7 d) tt)

@@ -10,13 +10,14 @@ use mathlib.Core.Logic.{◌⊎◌, inl, inr, ◌↔◌}
 use mathlib.Core.Option.{some}
 use lib.Dec.{eqb, ltb, eqb_refl}
 use lib.ListN.{get_or, take}
-use Rattle.rules.specs.Record.{Rec, listed, Each, Ascending}
-use Rattle.rules.specs.Joined.{count_of, all_codes, numbers, full_tally_of}
+use Rattle.rules.specs.Record.{Rec, listed, Each}
+use Rattle.rules.specs.Joined.{count_of, tally_of}
 use Rattle.base.proofs.Bools.{so}
 use Rattle.json_text.specs.Text.{Json, Items, item}
 use Rattle.spans.specs.Fit.{Fit}
 use Rattle.sarif_log.specs.Log.{rule, rules, if_any, nonzeros, index_of}
-use Rattle.sarif_log.specs.Rules.{nth, counted, present, each_rule}
+use Rattle.sarif_log.specs.Rules.{nth, counted, present, each_rule, Ascending}
+use Rattle.rules.specs.Joined.{codes, numbers}
 
 -- ---- the rules listed are those of the codes that are present
 
@@ -29,8 +30,8 @@ unfolding rules
 all_rules [] c = refl
 all_rules (n ∷ ns) c = listed_rule (ltb 0 n) c (counted (suc c) ns) (rules (suc c) ns) (all_rules ns (suc c))
 
-pub rules_listed : (rs : List Rec) → rules 1 (full_tally_of rs) ≡ each_rule (present rs)
-rules_listed rs = all_rules (full_tally_of rs) 1
+pub rules_listed : (rs : List Rec) → rules 1 (tally_of rs) ≡ each_rule (present rs)
+rules_listed rs = all_rules (tally_of rs) 1
 
 -- ---- each once
 
@@ -52,7 +53,7 @@ ascending (n ∷ ns) c = up_step (ltb 0 n) c (counted (suc c) ns) (low ns (suc c
 
 -- NO RULE IS LISTED TWICE: the codes of the rules ascend
 pub rules_once : (rs : List Rec) → Ascending (present rs)
-rules_once rs = ascending (full_tally_of rs) 1
+rules_once rs = ascending (tally_of rs) 1
 
 -- ---- one for each code that has a record
 
@@ -92,14 +93,14 @@ module _ (f : ℕ → ℕ) where
   there (suc n) a c k = there_step (eqb c a) a n c (counted (suc a) (map f (numbers n (suc a)))) refl k (there n (suc a) c)
 
 -- A RULE FOR EACH CODE PRESENT, and for no other
-pub rule_for_each : (rs : List Rec) (c : ℕ) → 1 ≤ c → c ≤ all_codes → Memᴰ c (present rs) ↔ (0 < count_of c rs)
+pub rule_for_each : (rs : List Rec) (c : ℕ) → 1 ≤ c → c ≤ codes → Memᴰ c (present rs) ↔ (0 < count_of c rs)
 rule_for_each rs c l h = (
-  λ m. (counts (λ d. count_of d rs) all_codes 1 c m).some_count,
-  λ p. there (λ d. count_of d rs) all_codes 1 c (record { low = l; high = omega arith; some_count = p }),
+  λ m. (counts (λ d. count_of d rs) codes 1 c m).some_count,
+  λ p. there (λ d. count_of d rs) codes 1 c (record { low = l; high = omega arith; some_count = p }),
 )
 
-pub no_other_rule : (rs : List Rec) (c : ℕ) → Memᴰ c (present rs) → (1 ≤ c) × (c ≤ all_codes)
-no_other_rule rs c m = let k = counts (λ d. count_of d rs) all_codes 1 c m in omega arith
+pub no_other_rule : (rs : List Rec) (c : ℕ) → Memᴰ c (present rs) → (1 ≤ c) × (c ≤ codes)
+no_other_rule rs c m = let k = counts (λ d. count_of d rs) codes 1 c m in omega arith
 
 -- ---- where a result's index says
 
@@ -135,13 +136,12 @@ fit_of r rs (Memᴰ.tail {x = s} {xs = ss} m) h = fit_of r ss m h.1
 
 -- AT A RESULT'S INDEX STANDS THE RULE OF ITS CODE
 pub index_right : (rs : List Rec) → Each Fit rs → (r : Rec) → Memᴰ r rs
-    → nth (rules 1 (full_tally_of rs)) (index_of (full_tally_of rs) r.code) ≡ some (rule r.code)
+    → nth (rules 1 (tally_of rs)) (index_of (tally_of rs) r.code) ≡ some (rule r.code)
 unfolding index_of
 index_right rs h r m =
     let fit = fit_of r rs m h in
     let c = r.code in
     let k : 1 + (c - 1) ≡ c = omega arith in
-    let at : get_or (full_tally_of rs) (c - 1) 0 ≡ count_of c rs
-    = count_at (λ d. count_of d rs) all_codes 1 (c - 1) (omega arith) ∙ ap (λ (d : ℕ). count_of d rs) k in
+    let at : get_or (tally_of rs) (c - 1) 0 ≡ count_of c rs = count_at (λ d. count_of d rs) codes 1 (c - 1) (omega arith) ∙ ap (λ (d : ℕ). count_of d rs) k in
     let p = among r rs m in
-    nth_rule (full_tally_of rs) (c - 1) 1 (rw at p) ∙ ap (λ (d : ℕ). some (rule d)) k
+    nth_rule (tally_of rs) (c - 1) 1 (rw at p) ∙ ap (λ (d : ℕ). some (rule d)) k

@@ -8,7 +8,7 @@ use mathlib.Core.Option.{Option, none, some}
 use lib.Dec.{ltb}
 use Rattle.tree.specs.Table.{table_of}
 use Rattle.rules.specs.Record.{Rec, Each}
-use Rattle.rules.specs.Joined.{full_tally_of}
+use Rattle.rules.specs.Joined.{tally_of}
 use Rattle.base.specs.Ascii.{ascii}
 use Rattle.json_text.specs.Utf8.{front}
 use Rattle.json_text.specs.Escape.{escape, escaped, unit}
@@ -134,7 +134,7 @@ after_all = refl
 pub read_back : (t : List ℕ) (rs : List Rec) → Each Fit rs → read (log t rs) ≡ map found rs
 unfolding log
 read_back t rs h =
-    let tally = full_tally_of rs in
+    let tally = tally_of rs in
     before_rules t tally rs
     ∙ (after_rules tally 1 (beyond t tally rs) true
     ∙ (before_results t tally rs

@@ -5,7 +5,7 @@ use native.Mathlib.Omega.{arith}
 use borrow.Author.Tests.{ltb-true, ltb-false, eqb-true, eqb-false}
 use mathlib.Core.Path.{◌≡◌, refl, ap}
 use mathlib.Core.Bool.{Bool, true, false, cond, ◌&&◌}
-use mathlib.Core.List.{List, [], ◌∷◌, map}
+use mathlib.Core.List.{List, [], ◌∷◌, ◌++◌}
 use mathlib.Core.Option.{Option, none, some}
 use lib.Dec.{T, eqb, leb, ltb, leb→le, le→leb}
 use lib.ListN.{length, take}
@@ -21,29 +21,26 @@ use Rattle.tree.proofs.TableLaws.{at_past}
 use Rattle.tree.proofs.ValidTable.{value_formed}
 use Rattle.rules.specs.Visit.{look}
 use Rattle.rules.specs.Record.{Rec, Span, spot_span, words, all_words, Each}
-use Rattle.rules.specs.Joined.{lint_list, profiled_list, count_of, codes, all_codes, numbers, tally_to}
-use Rattle.rules.specs.declared.Profile.{Profile}
-use Rattle.rules.specs.declared.Profile.TheVariants.{Off}
+use Rattle.rules.specs.Joined.{lint_list, tally_of}
 use Rattle.rules.specs.Codes.{short_name}
 use Rattle.base.proofs.Bools.{and_left, and_right}
 use Rattle.rules.proofs.Look.{look_so}
-use Rattle.rules.proofs.Each.{each_left, each_right}
 use Rattle.json_text.specs.Utf8.{front}
 use Rattle.json_text.specs.Escape.{unit, escape, escaped, hexes}
 use Rattle.page.specs.Digits as to
 use Rattle.page.specs.Digits.{decimal}
-use Rattle.json_text.specs.Text.{Items, nil, text}
+use Rattle.json_text.specs.Text.{Items, nil}
 use Rattle.page.proofs.Decimals.{few_digits, decimal_few}
 use Rattle.spans.specs.Fit.{Fit}
-use Rattle.spans.proofs.Whole.{file_fit, file_ordinary}
+use Rattle.spans.proofs.Whole.{file_fit}
 use Rattle.sarif_log.specs.Words.{seconds, thirds, kinds, phrase, phrase_of, kind_word, shown, value_of, after_phrase, message_text, arguments}
 use Rattle.sarif_log.specs.Log.{level, result_kind, place, message, message_of, strings, other, related, nonzeros, index_of, result, results, rule, if_any, rules, sarif_log, log}
 use Rattle.sarif_log.specs.Size.{Bounded}
 use Rattle.sarif_log.proofs.Plainly.{phrase_plain, decimal_same}
 use Rattle.sarif_log.proofs.Weight.{weight, escaped_length, weight_append, weight_most, plain_weight, hexes_weight}
 use Rattle.sarif_log.proofs.Worded.{phrase_short}
-use Rattle.sarif_log.proofs.Seventeen.{seventeen_log}
 use Rattle.sarif_log.proofs.TextSize.{size, items_size, lines_size, member_size, text_length, first_fewer, first_line}
+use Rattle.rules.specs.Joined.{codes}
 
 -- ---- what is said of a value
 
@@ -138,7 +135,7 @@ nonzeros_most (n ∷ ns) (suc k) = omega (arith, most (ltb 0 n), nonzeros_most n
     most true = omega arith
     most false = omega arith
 
-index_digits : (tally : List ℕ) (c : ℕ) → c ≤ all_codes → length (decimal (index_of tally c)) ≤ cond (ltb c 11) 1 2
+index_digits : (tally : List ℕ) (c : ℕ) → c ≤ codes → length (decimal (index_of tally c)) ≤ cond (ltb c 11) 1 2
 unfolding index_of
 index_digits tally c h = go (ltb c 11) refl
   where
@@ -172,12 +169,12 @@ below q (suc n) c t h =
     below_step q n c (eqb c n) refl (and_left (q n) (all_below n q) t)
     (λ e. let ne = eqb-false c n e in below q n c (and_right (q n) (all_below n q) t) (omega arith))
 
-codes_most : T (all_below (suc all_codes) (λ c. leb (code_most c) 424))
+codes_most : T (all_below (suc codes) (λ c. leb (code_most c) 424))
 unfolding decimal to.digits escape unit front
 codes_most = tt
 
-code_so : (c : ℕ) → c ≤ all_codes → code_most c ≤ 424
-code_so c h = leb→le (code_most c) 424 (below (λ c. leb (code_most c) 424) (suc all_codes) c codes_most (omega arith))
+code_so : (c : ℕ) → c ≤ codes → code_most c ≤ 424
+code_so c h = leb→le (code_most c) 424 (below (λ c. leb (code_most c) 424) (suc codes) c codes_most (omega arith))
 
 result_most : (t tally : List ℕ) (r : Rec) → Bounded t r → size (result t tally r) ≤ 2220
 unfolding result size escape unit front
@@ -204,63 +201,56 @@ unfolding results size
 results_most [] t tally h = omega arith
 results_most (r ∷ rs) t tally h = omega (arith, result_most t tally r h.0, results_most rs t tally h.1)
 
--- ---- the rules: at most those of the first n codes
+-- ---- the rules: at most all seventeen
 
-abbrev rules_most : ℕ → ℕ → ℕ
-rules_most c zero = 0
-rules_most c (suc n) = 2 + (size (rule c) + rules_most (suc c) n)
+abbrev rules_most : ℕ → List ℕ → ℕ
+rules_most c [] = 0
+rules_most c (n ∷ ns) = 2 + (size (rule c) + rules_most (suc c) ns)
 
 rule_step : (b : Bool) (c m : ℕ) (xs : Items) → lines_size false xs ≤ m → lines_size false (if_any b (rule c) xs) ≤ 2 + (size (rule c) + m)
 unfolding size
 rule_step true c m xs h = omega arith
 rule_step false c m xs h = omega arith
 
-rules_so : (f : ℕ → ℕ) (n c : ℕ) → lines_size false (rules c (map f (numbers n c))) ≤ rules_most c n
+rules_so : (ns : List ℕ) (c : ℕ) → lines_size false (rules c ns) ≤ rules_most c ns
 unfolding rules size
-rules_so f zero c = omega arith
-rules_so f (suc n) c = rule_step (ltb 0 (f c)) c (rules_most (suc c) n) (rules (suc c) (map f (numbers n (suc c)))) (rules_so f n (suc c))
+rules_so [] c = omega arith
+rules_so (n ∷ ns) c = rule_step (ltb 0 n) c (rules_most (suc c) ns) (rules (suc c) ns) (rules_so ns (suc c))
 
-no_rules : (n c : ℕ) → lines_size true (rules c (map (λ d. count_of d []) (numbers n c))) ≡ 0
+all_rules : (rs : List Rec) → rules_most 1 (tally_of rs) ≡ 1373
+unfolding rule short_name size decimal to.digits escape unit front
+all_rules rs = refl
+
+no_rules : lines_size true (rules 1 (tally_of [])) ≡ 0
 unfolding rules size
-no_rules zero c = refl
-no_rules (suc n) c = no_rules n (suc c)
+no_rules = refl
 
-ordinary_rules : rules_most 1 codes ≡ 1373
-unfolding rule short_name size decimal to.digits escape unit front
-ordinary_rules = refl
-
-all_rules : rules_most 1 all_codes ≡ 1782
-unfolding rule short_name size decimal to.digits escape unit front
-all_rules = refl
-
--- with the counts of n codes, whose rules have m bytes at most: a log's own 246, with the rules and the first line less a comma each
-size_to : (n m : ℕ) → rules_most 1 n ≡ m → 2 ≤ m → (t : List ℕ) (rs : List Rec) → Each (Bounded t) rs
-    → length (text (sarif_log t (tally_to n rs) rs) (0x0A ∷ [])) ≤ 244 + m + 2222 * length rs
-unfolding size escape unit front results
-size_to n m e l t [] h = omega (arith, text_length (sarif_log t (tally_to n []) []) (0x0A ∷ []), no_rules n 1)
-size_to n m e l t (r ∷ rs) h =
+-- THE SIZE OF A LOG: of its own 246 bytes, with the rules and the first line less a comma each
+pub log_size : (t : List ℕ) (rs : List Rec) → Each (Bounded t) rs → length (log t rs) ≤ 1617 + 2222 * length rs
+unfolding log size escape unit front results
+log_size t [] h = omega (arith, text_length (sarif_log t (tally_of []) []) (0x0A ∷ []), no_rules)
+log_size t (r ∷ rs) h =
     let all = r ∷ rs in
-    let tally = tally_to n all in
+    let tally = tally_of all in
     omega (
       arith,
       text_length (sarif_log t tally all) (0x0A ∷ []),
       first_line (rules 1 tally),
-      rules_so (λ c. count_of c all) n 1,
+      rules_so tally 1,
+      all_rules all,
       first_line (results t tally all),
       results_most all t tally h,
     )
 
--- THE SIZE OF A LOG
-pub full_log_size : (t : List ℕ) (rs : List Rec) → Each (Bounded t) rs → length (log t rs) ≤ 2026 + 2222 * length rs
-unfolding log
-full_log_size t rs h = size_to all_codes 1782 all_rules (omega arith) t rs h
-
--- .. WITHOUT THE PROFILE'S CODES
-pub log_size : (t : List ℕ) (rs : List Rec) → Each (Bounded t) rs → Each (λ r. r.code ≤ codes) rs
-    → length (log t rs) ≤ 1617 + 2222 * length rs
-log_size t rs h o = rw (seventeen_log t rs o) (size_to codes 1373 ordinary_rules (omega arith) t rs h)
-
 -- ---- of a valid file
+
+each_first : (P : ℕ → Type 0) (xs ys : List ℕ) → Each P (xs ++ ys) → Each P xs
+each_first P [] ys u = tt
+each_first P (x ∷ xs) ys u = (u.0, each_first P xs ys u.1)
+
+each_rest : (P : ℕ → Type 0) (xs ys : List ℕ) → Each P (xs ++ ys) → Each P ys
+each_rest P [] ys u = u
+each_rest P (x ∷ xs) ys u = each_rest P xs ys u.1
 
 each_bounded : (t : List ℕ) → ((v : ℕ) → length (at (table_of t) v).bytes ≤ 255) → (rs : List Rec) → Each Fit rs
     → Each (λ w. w < 4294967296) (all_words rs) → Each (Bounded t) rs
@@ -268,10 +258,10 @@ each_bounded t short [] f u = tt
 each_bounded t short (r ∷ rs) f u = (
   record {
     a_code = f.0.a_code;
-    each_u32 = each_left (λ w. w < 4294967296) (words r) (all_words rs) u;
+    each_u32 = each_first (λ w. w < 4294967296) (words r) (all_words rs) u;
     short_value = short r.spot.value;
   },
-  each_bounded t short rs f.1 (each_right (λ w. w < 4294967296) (words r) (all_words rs) u),
+  each_bounded t short rs f.1 (each_rest (λ w. w < 4294967296) (words r) (all_words rs) u),
 )
 
 -- "Length at most 255"; a number beyond the table stands for no bytes
@@ -290,13 +280,4 @@ short_values t f e v = go (ltb v (value_count t)) refl
 pub file_log_size : (t : List ℕ) (f : Facts) → judged t ≡ Valid f → (mode : Mode) → Each (λ w. w < 4294967296) (all_words (lint_list mode t))
     → length (log t (lint_list mode t)) ≤ 1617 + 2222 * length (lint_list mode t)
 file_log_size t f e mode u =
-    let rs = lint_list mode t in
-    log_size t rs (each_bounded t (short_values t f e) rs (file_fit t f e Off mode) u) (file_ordinary t f e mode)
-
--- .. with the profile or without
-pub file_full_log_size : (t : List ℕ) (f : Facts) → judged t ≡ Valid f → (chosen : Profile) (mode : Mode)
-    → Each (λ w. w < 4294967296) (all_words (profiled_list chosen mode t))
-    → length (log t (profiled_list chosen mode t)) ≤ 2026 + 2222 * length (profiled_list chosen mode t)
-file_full_log_size t f e chosen mode u =
-    let rs = profiled_list chosen mode t in
-    full_log_size t rs (each_bounded t (short_values t f e) rs (file_fit t f e chosen mode) u)
+    log_size t (lint_list mode t) (each_bounded t (short_values t f e) (lint_list mode t) (file_fit t f e mode) u)

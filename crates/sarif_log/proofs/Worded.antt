@@ -22,14 +22,14 @@ use Rattle.sarif_log.specs.Words.{phrases, reasons, kinds, seconds, reason, phra
 use Rattle.sarif_log.specs.Log.{other, related}
 use Rattle.sarif_log.specs.Pieces.{related_place, second_related, all_related}
 use Rattle.sarif_log.proofs.Plainly.{no_reason, reason_so, no_second, no_third}
-use Rattle.rules.specs.Joined.{all_codes}
+use Rattle.rules.specs.Joined.{codes}
 
 abbrev pub phrase_words : ℕ → List ℕ
 phrase_words c = ascii (look c phrases "")
 
 -- no words are said of 0
-pub phrase_piece : (c : ℕ) → c ≤ all_codes → Piece (letters phrases) (0 ∷ begins_from 0 phrases) c (phrase_words c)
-phrase_piece c h = pieces (letters phrases) (0 ∷ begins_from 0 phrases) phrase_words (suc all_codes) tt c (omega arith)
+pub phrase_piece : (c : ℕ) → c ≤ codes → Piece (letters phrases) (0 ∷ begins_from 0 phrases) c (phrase_words c)
+phrase_piece c h = pieces (letters phrases) (0 ∷ begins_from 0 phrases) phrase_words (suc codes) tt c (omega arith)
 
 pub reason_piece : (n : ℕ) → n ≤ 2 → Piece (letters reasons) (0 ∷ begins_from 0 reasons) n (reason 16 n)
 unfolding reason
@@ -64,7 +64,7 @@ piece_wrote {o = o} {o₁ = o₁} {n = n} {n₁ = n₁} {j = j} s begins k w m p
     wrote_most w m h (subst (λ (l : List ℕ). Wrote o n o₁ n₁ j (λ rest. l ++ rest)) p.is r)
 
 -- ... and of a reason after it
-pub phrase_wrote : {o o₁ o₂ : List ℕ} {m m₁ m₂ j : ℕ} (c n : ℕ) → c ≤ all_codes
+pub phrase_wrote : {o o₁ o₂ : List ℕ} {m m₁ m₂ j : ℕ} (c n : ℕ) → c ≤ codes
     → Wrote o m o₁ m₁ j (λ rest. piece (letters phrases) (0 ∷ begins_from 0 phrases) c ++ rest)
     → Wrote o₁ m₁ o₂ m₂ 34 (λ rest. reason c n ++ rest) → Wrote o m o₂ m₂ 60 (λ rest. phrase c n ++ rest)
 unfolding phrase
@@ -80,13 +80,13 @@ second_words c = ascii (look c seconds "")
 
 abbrev pub seconds_at : List ℕ
 seconds_at =
-    0 ∷ 0 ∷ 0 ∷ 0 ∷ 0 ∷ 0 ∷ 0 ∷ 0 ∷ 12 ∷ 42 ∷ 42 ∷ 42 ∷ 42 ∷ 42 ∷ 42 ∷ 42 ∷ 60 ∷ 82 ∷ 82 ∷ 82 ∷ 82 ∷ 82 ∷ 82 ∷ 110 ∷ []
+    0 ∷ 0 ∷ 0 ∷ 0 ∷ 0 ∷ 0 ∷ 0 ∷ 0 ∷ 12 ∷ 42 ∷ 42 ∷ 42 ∷ 42 ∷ 42 ∷ 42 ∷ 42 ∷ 60 ∷ 82 ∷ 82 ∷ []
 
 abbrev pub second_part : ℕ → List ℕ
 second_part c = piece (letters seconds) seconds_at c
 
-pub second_piece : (c : ℕ) → c ≤ all_codes → Piece (letters seconds) seconds_at c (second_words c)
-second_piece c h = pieces (letters seconds) seconds_at second_words (suc all_codes) tt c (omega arith)
+pub second_piece : (c : ℕ) → c ≤ codes → Piece (letters seconds) seconds_at c (second_words c)
+second_piece c h = pieces (letters seconds) seconds_at second_words (suc codes) tt c (omega arith)
 
 no_words : (w : String) (s : Span) (rest : List ℕ) → length (ascii w) ≡ 0 → rest ≡ items true (other w s nil) rest
 unfolding text other
@@ -98,10 +98,12 @@ unfolding text other
 some_words end s rest e = absurd (omega arith)
 some_words (c then w) s rest e = refl
 
-pub second_past : (c : ℕ) (s : Span) → all_codes < c → (rest : List ℕ) → rest ≡ second_related c s rest
-second_past c s h rest = no_words (look c seconds "") s rest (ap (λ (w : String). length (ascii w)) (no_second c h))
+pub second_past : (c : ℕ) (s : Span) → codes < c → (rest : List ℕ) → rest ≡ second_related c s rest
+second_past c s h rest =
+    let e = no_second c (λ q. omega arith) (λ q. omega arith) (λ q. omega arith) (λ q. omega arith) in
+    no_words (look c seconds "") s rest (ap (λ (w : String). length (ascii w)) e)
 
-module _ (c : ℕ) (s : Span) (h : c ≤ all_codes) where
+module _ (c : ℕ) (s : Span) (h : c ≤ codes) where
   as_long : length (second_words c) ≡ length (second_part c)
   as_long = sym (ap (λ (l : List ℕ). length l) (second_piece c h).is)
 

@@ -6,7 +6,7 @@ use Rattle.tree.specs.Values.{Value}
 use Rattle.tree.specs.Table.{table_of}
 use Rattle.rules.specs.Visit.{look}
 use Rattle.rules.specs.Record.{Rec, Span, spot_span}
-use Rattle.rules.specs.Joined.{full_tally_of}
+use Rattle.rules.specs.Joined.{tally_of}
 use Rattle.base.specs.Ascii.{ascii}
 use Rattle.rules.specs.Codes.{disabled, short_name}
 use Rattle.page.specs.Digits.{decimal}
@@ -127,4 +127,4 @@ sarif_log t tally rs =
 
 -- the log of the list rs of the file t, with a line's end after it
 unfoldable pub log : List ℕ → List Rec → List ℕ
-log t rs = text (sarif_log t (full_tally_of rs) rs) (0x0A ∷ [])
+log t rs = text (sarif_log t (tally_of rs) rs) (0x0A ∷ [])

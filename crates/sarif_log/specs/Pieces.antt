@@ -61,7 +61,7 @@ result_related r rest = 0x2C ∷ member ("relatedLocations" ⇒ array (related r
 -- ---- the log in pieces (proofs/InPieces: one after the other they are the log), each of at most so many bytes
 
 abbrev pub piece_most : ℕ
-piece_most = 6300
+piece_most = 5000
 
 -- what stands before the first result, and what stands after the last
 abbrev pub head : List ℕ → List ℕ

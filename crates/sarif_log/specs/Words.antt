@@ -9,7 +9,7 @@ use Rattle.rules.specs.Record.{Rec}
 use Rattle.base.specs.Ascii.{ascii}
 use Rattle.json_text.specs.Escape.{hexes}
 
--- what is said of each code, before its value; of 1 to 17 after the Rust's messages
+-- what is said of each code, before its value; after the Rust's messages
 abbrev pub phrases : List (ℕ × String)
 phrases =
     (1, "Unused load of") ∷ (2, "Unused assignment of") ∷ (3, "Unused argument") ∷ (4, "Use of unassigned variable")
@@ -20,8 +20,6 @@ phrases =
     ∷ (13, "Statement has no effect")
     ∷ (14, "Incompatible check of a type against") ∷ (15, "Duplicate top-level assignment of")
     ∷ (16, "Duplicate dictionary key") ∷ (17, "Statement that does nothing or fails: variable")
-    ∷ (18, "An if or for statement outside every def") ∷ (19, "Return outside a def") ∷ (20, "Break or continue outside a loop")
-    ∷ (21, "A load statement inside an if, a for or a def") ∷ (22, "Duplicate parameter")
     ∷ []
 
 -- 02, §11: why two keys are equal, "same form, or same number in two forms", said of code 16 after its phrase
@@ -32,12 +30,9 @@ reasons = (1, ", the same key again:") ∷ (2, ", the same number in another for
 abbrev pub kinds : List (ℕ × String)
 kinds = (0, " ") ∷ (1, " string ") ∷ (2, " bytes ") ∷ (3, " integer 0x") ∷ (4, " float of bytes ") ∷ []
 
--- the second and third spans as related locations: 01 gives codes 7, 8, 15 and 16 a second span, 7 a third; 02, §10, gives 22 a second
+-- the second and third spans as related locations: 01 gives codes 7, 8, 15 and 16 a second span, 7 a third
 abbrev pub seconds : List (ℕ × String)
-seconds =
-    (7, "the function") ∷ (8, "why the function wants a value") ∷ (15, "first defined here") ∷ (16, "the equal key after it")
-    ∷ (22, "first parameter of that name")
-    ∷ []
+seconds = (7, "the function") ∷ (8, "why the function wants a value") ∷ (15, "first defined here") ∷ (16, "the equal key after it") ∷ []
 
 abbrev pub thirds : List (ℕ × String)
 thirds = (7, "why the function wants a value") ∷ []

@@ -8,7 +8,7 @@ ghost use Rattle.tree.specs.Table.{table_of};
 ghost use Rattle.tree.specs.code.Numbers.{Starts};
 ghost use Rattle.rules.specs.Afterwards.{record_in, records_in};
 ghost use Rattle.rules.specs.Record.{width};
-ghost use Rattle.rules.specs.Joined.{all_codes};
+ghost use Rattle.rules.specs.Joined.{codes};
 ghost use Rattle.rules.specs.Codes.{short_name};
 ghost use Rattle.answer.specs.Note.{rec_from};
 ghost use Rattle.page.specs.Page.{Wrote};
@@ -22,7 +22,7 @@ use answer::Words;
 use codes::{EvalSeverity, severity, short_name};
 use json_text::{escaped, hexes, string};
 use page::{number, raw};
-use rules::{ALL_CODES, LAST_CODE, WIDTH};
+use rules::{CODES, LAST_CODE, WIDTH};
 use tree::bytes::{byte_at, u16_at, value_count};
 use words::{kind_word, phrase};
 
@@ -85,14 +85,13 @@ fn other(out: &mut [u8], n: usize, says: &[u8], begin: u32, end: u32) -> usize
 }
 
 // The words for a second span, one after another; those of code c begin at the c-th place.
-const SECONDS: [u8; 110] = *b"the function\
+const SECONDS: [u8; 82] = *b"the function\
     why the function wants a value\
     first defined here\
-    the equal key after it\
-    first parameter of that name";
+    the equal key after it";
 
-const SECONDS_AT: [usize; 24] = [
-    0, 0, 0, 0, 0, 0, 0, 0, 12, 42, 42, 42, 42, 42, 42, 42, 60, 82, 82, 82, 82, 82, 82, 110,
+const SECONDS_AT: [usize; 19] = [
+    0, 0, 0, 0, 0, 0, 0, 0, 12, 42, 42, 42, 42, 42, 42, 42, 60, 82, 82,
 ];
 
 // The related location of a second span, where the code has words for it.
@@ -178,7 +177,7 @@ fn nonzero(n: usize) -> u32
 }
 
 // The rules before that of a code: where it stands among them.
-fn index_of(tally: [usize; ALL_CODES], code: u32) -> u32
+fn index_of(tally: [usize; CODES], code: u32) -> u32
     ensures { result ≡ index_of tally code }
 {
     let mut index = 0;
@@ -231,8 +230,8 @@ fn rule_level(out: &mut [u8], n: usize, code: u32) -> usize
 }
 
 // The rule of a code that is present.
-fn rule_if(out: &mut [u8], n: usize, tally: [usize; ALL_CODES], code: u32) -> usize
-    requires { (1 ≤ code) × (code ≤ all_codes) }
+fn rule_if(out: &mut [u8], n: usize, tally: [usize; CODES], code: u32) -> usize
+    requires { (1 ≤ code) × (code ≤ codes) }
     ensures { Wrote out.old n out.new result 260 (rule_line tally code) }
 {
     if tally[(code - 1) as usize] == 0 {
@@ -242,8 +241,8 @@ fn rule_if(out: &mut [u8], n: usize, tally: [usize; ALL_CODES], code: u32) -> us
     rule(out, a, code)
 }
 
-fn rules(out: &mut [u8], n: usize, tally: [usize; ALL_CODES]) -> usize
-    ensures { Wrote out.old n out.new result (260 * all_codes) (lines true (rules-of 1 tally)) }
+fn rules(out: &mut [u8], n: usize, tally: [usize; CODES]) -> usize
+    ensures { Wrote out.old n out.new result 4420 (lines true (rules-of 1 tally)) }
 {
     let mut at = n;
     let mut code = 1;
@@ -274,7 +273,7 @@ fn record_at(list: &[u32], k: usize) -> Words
     }
 }
 
-fn result_rule(out: &mut [u8], n: usize, tally: [usize; ALL_CODES], code: u32) -> usize
+fn result_rule(out: &mut [u8], n: usize, tally: [usize; CODES], code: u32) -> usize
     ensures { Wrote out.old n out.new result 50 (result_rule tally code) }
 {
     let a = raw(out, n, b"{\"ruleId\":\"");
@@ -306,7 +305,7 @@ fn result(
     n: usize,
     t: &[u8],
     starts: &[usize; 512],
-    tally: [usize; ALL_CODES],
+    tally: [usize; CODES],
     w: Words,
 ) -> usize
     requires { Small t.now × Starts t.now starts.now }
@@ -324,7 +323,7 @@ fn result_line(
     n: usize,
     t: &[u8],
     starts: &[usize; 512],
-    tally: [usize; ALL_CODES],
+    tally: [usize; CODES],
     list: &[u32],
     k: usize,
 ) -> usize
@@ -340,7 +339,7 @@ fn results(
     n: usize,
     t: &[u8],
     starts: &[usize; 512],
-    tally: [usize; ALL_CODES],
+    tally: [usize; CODES],
     list: &[u32],
     count: usize,
 ) -> usize
@@ -357,8 +356,8 @@ fn results(
 }
 
 // What stands before the first result.
-fn head(out: &mut [u8], n: usize, tally: [usize; ALL_CODES]) -> usize
-    ensures { Wrote out.old n out.new result 6200 (λ rest. head_of tally ++ rest) }
+fn head(out: &mut [u8], n: usize, tally: [usize; CODES]) -> usize
+    ensures { Wrote out.old n out.new result 4900 (λ rest. head_of tally ++ rest) }
 {
     let a = raw(
         out,
@@ -381,7 +380,7 @@ fn tail(out: &mut [u8], n: usize) -> usize
 }
 
 // No piece has more bytes.
-pub const PIECE: usize = 6300;
+pub const PIECE: usize = 5000;
 
 // Piece k of the log of the first `count` records of a list: 0 what stands before the first result, then each result on its line, and
 // last what stands after them.
@@ -391,7 +390,7 @@ pub fn piece(
     starts: &[usize; 512],
     list: &[u32],
     count: usize,
-    tally: [usize; ALL_CODES],
+    tally: [usize; CODES],
     k: usize,
 ) -> usize
     requires { Small t.now × Starts t.now starts.now × (width * count ≤ length list.now) × (k ≤ count + 1) }
@@ -413,10 +412,10 @@ pub fn log(
     starts: &[usize; 512],
     list: &[u32],
     count: usize,
-    tally: [usize; ALL_CODES],
+    tally: [usize; CODES],
 ) -> usize
     requires { Small t.now × Starts t.now starts.now × (width * count ≤ length list.now) }
-    ensures { Wrote out.old 0 out.new result (piece_most + 2402 * count) (λ rest. text (sarif_log t.now tally (records_in count list.now)) (0x0A ∷ rest)) }
+    ensures { Wrote out.old 0 out.new result (5000 + 2402 * count) (λ rest. text (sarif_log t.now tally (records_in count list.now)) (0x0A ∷ rest)) }
 {
     let a = head(out, 0, tally);
     let b = results(out, a, t, starts, tally, list, count);

@@ -6,7 +6,7 @@ ghost use Rattle.sarif_log.specs.Words.{reason as reason-of, phrase, kind_word};
 use page::raw;
 use rules::LAST_CODE;
 
-const PHRASES: [u8; 691] = *b"Unused load of\
+const PHRASES: [u8; 535] = *b"Unused load of\
     Unused assignment of\
     Unused argument\
     Use of unassigned variable\
@@ -22,17 +22,11 @@ const PHRASES: [u8; 691] = *b"Unused load of\
     Incompatible check of a type against\
     Duplicate top-level assignment of\
     Duplicate dictionary key\
-    Statement that does nothing or fails: variable\
-    An if or for statement outside every def\
-    Return outside a def\
-    Break or continue outside a loop\
-    A load statement inside an if, a for or a def\
-    Duplicate parameter";
+    Statement that does nothing or fails: variable";
 
 // That of code c begins at the c-th; no words are said of 0.
-const PHRASES_AT: [usize; 24] = [
-    0, 0, 14, 34, 49, 75, 100, 137, 197, 229, 250, 291, 330, 373, 396, 432, 465, 489, 535, 575,
-    595, 627, 672, 691,
+const PHRASES_AT: [usize; 19] = [
+    0, 0, 14, 34, 49, 75, 100, 137, 197, 229, 250, 291, 330, 373, 396, 432, 465, 489, 535,
 ];
 
 const REASONS: [u8; 55] = *b", the same key again:\

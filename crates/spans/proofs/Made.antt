@@ -5,7 +5,7 @@ use mathlib.Core.Bool.{Bool, true, false, ◌&&◌, ◌||◌, not}
 use mathlib.Core.List.{List, ◌++◌}
 use lib.Dec.{eqb, leb, T, eqb-suc-zero}
 use Rattle.tree.specs.Forest.{Head, Forest, Forest.none as leaf, node}
-use Rattle.rules.specs.Record.{Rec, Span, no_span, spot_span, named_at, valued_at, plainly, also_at, Each}
+use Rattle.rules.specs.Record.{Rec, Span, no_span, spot_span, named_at, valued_at, also_at, Each}
 use Rattle.rules.specs.Visit.{has, head_at, kind_among, each}
 use Rattle.rules.specs.Joined.{codes}
 use Rattle.spans.specs.Fit.{Reason}
@@ -16,15 +16,12 @@ abbrev pub Throughout : (Head → Type 0) → Forest → Type 0
 Throughout P leaf = Unit {0}
 Throughout P (node h k s) = (P h × (T (eqb h.kind 5) → T (has 4 k))) × (Throughout P k × Throughout P s)
 
--- the codes of names; those of flow, incompatible and dubious but 16; those of the profile but 22
+-- the codes of names; those of flow, incompatible and dubious but 16
 abbrev pub early : ℕ → Bool
 early c = leb 1 c && leb c 6
 
 abbrev pub later : ℕ → Bool
 later c = leb 7 c && (leb c codes && not (eqb 16 c))
-
-abbrev pub outer : ℕ → Bool
-outer c = leb 18 c && leb c 21
 
 -- a record of flow, incompatible or dubious whose spans and numbers are those of nodes of which P holds: of one node, of two, of two and a
 -- third span; 16
@@ -38,11 +35,6 @@ pub data Late (P : Head → Type 0) : Rec → Type 0 where
 pub data Made (P : Head → Type 0) : Rec → Type 0 where
   name : (c : ℕ) (h : Head) → T (early c) → P h → Made P (named_at c h)
   late : (r : Rec) → Late P r → Made P r
-
--- a record of the profile: of one node; 22, of two
-pub data Last (P : Head → Type 0) : Rec → Type 0 where
-  alone : (c : ℕ) (h : Head) → T (outer c) → P h → Last P (plainly c h)
-  again : (h : Head) (v : ℕ) (g : Head) → P h → P g → Last P (also_at 22 h v g no_span)
 
 -- a node that has a kind is there
 pub kind_has : (k : Forest) (r n : ℕ) → T (eqb (suc n) (kind_among r k)) → T (has r k)

@@ -22,21 +22,17 @@ use Rattle.rules.specs.Names.{names_list}
 use Rattle.rules.specs.Flow.{none_name, flow_list}
 use Rattle.rules.specs.Incompatible.{allowance, type_name, five_types, spells_one, incompatible_list}
 use Rattle.rules.specs.Dubious.{dubious_list}
-use Rattle.rules.specs.Profile.{profile_list}
-use Rattle.rules.specs.Joined.{lint_list, profiled_list, codes, all_codes}
-use Rattle.rules.specs.declared.Profile.{Profile}
-use Rattle.rules.specs.declared.Profile.TheVariants.{Off, On}
+use Rattle.rules.specs.Joined.{codes, lint_list}
 use Rattle.rules.proofs.Bools.{so, nope, and_left, and_right}
 use Rattle.spans.specs.Fit.{Third, Fit}
 use Rattle.spans.specs.Placed.{Lies, Placed}
 use Rattle.rules.proofs.Each.{join, each_more}
-use Rattle.spans.proofs.Made.{Throughout, early, later, outer, Late, one, two, three, double, Made, name, late, Last, alone, again}
+use Rattle.spans.proofs.Made.{Throughout, early, later, Late, one, two, three, double, Made, name, late}
 use Rattle.spans.proofs.Tree.{Straight, Sits, tree_straight, tree_sits}
 use Rattle.spans.proofs.Names.{names_made}
 use Rattle.spans.proofs.Flow.{flow_late}
 use Rattle.spans.proofs.Incompatible.{incompatible_late}
 use Rattle.spans.proofs.Dubious.{dubious_late}
-use Rattle.spans.proofs.Profile.{profile_last}
 
 -- ---- what holds throughout the tree holds of the nodes that the records are made of
 
@@ -65,24 +61,12 @@ module _ (P : Head → Type 0) (t : List ℕ) (o : Throughout P (tree_of t)) whe
       let rest = flow_list t ++ (incompatible_list t ++ dubious_list mode t) in
       join (Made P) (names_list t) rest (names_made P t o) (each_more (Late P) (Made P) late rest (rest_late mode))
 
-  profile_list_last : Each (Last P) (profile_list t)
-  unfolding profile_list
-  profile_list_last = profile_last P (tree_of t) o
-
-  -- what such a record has, each record has, with the profile or without
-  each_made : (Q : Rec → Type 0) → ((r : Rec) → Made P r → Q r) → ((r : Rec) → Last P r → Q r) → (chosen : Profile) (mode : Mode)
-      → Each Q (profiled_list chosen mode t)
-  each_made Q f g Off mode = each_more (Made P) Q f (lint_list mode t) (file_made mode)
-  each_made Q f g On mode =
-      join Q (lint_list mode t) (profile_list t) (each_more (Made P) Q f (lint_list mode t) (file_made mode))
-      (each_more (Last P) Q g (profile_list t) profile_list_last)
-
 -- ---- such a record makes sense where no node ends before it begins
 
 -- a code but 16
 record Code (c : ℕ) : Type 0 where
   low : 1 ≤ c
-  high : c ≤ all_codes
+  high : c ≤ codes
   other : eqb 16 c ≡ false
 
 early_high : (c : ℕ) → T (early c) → c ≤ 6
@@ -100,26 +84,15 @@ early_code c t =
 later_low : (c : ℕ) → T (later c) → 7 ≤ c
 later_low c t = leb-true 7 c (so (leb 7 c) (and_left (leb 7 c) (leb c codes && not (eqb 16 c)) t))
 
-later_high : (c : ℕ) → T (later c) → c ≤ codes
-later_high c t =
-    let u = and_right (leb 7 c) (leb c codes && not (eqb 16 c)) t in
-    leb-true c codes (so (leb c codes) (and_left (leb c codes) (not (eqb 16 c)) u))
-
 later_code : (c : ℕ) → T (later c) → Code c
 later_code c t =
     let low = later_low c t in
-    let high = later_high c t in
     let u = and_right (leb 7 c) (leb c codes && not (eqb 16 c)) t in
-    record { low = omega arith; high = omega arith; other = nope (eqb 16 c) (and_right (leb c codes) (not (eqb 16 c)) u) }
-
-outer_low : (c : ℕ) → T (outer c) → 18 ≤ c
-outer_low c t = leb-true 18 c (so (leb 18 c) (and_left (leb 18 c) (leb c 21) t))
-
-outer_code : (c : ℕ) → T (outer c) → Code c
-outer_code c t =
-    let low = outer_low c t in
-    let high = leb-true c 21 (so (leb c 21) (and_right (leb 18 c) (leb c 21) t)) in
-    record { low = omega arith; high = omega arith; other = ne_eqb 16 c (λ e. omega arith) }
+    record {
+      low = omega arith;
+      high = leb-true c codes (so (leb c codes) (and_left (leb c codes) (not (eqb 16 c)) u));
+      other = nope (eqb 16 c) (and_right (leb c codes) (not (eqb 16 c)) u);
+    }
 
 fit_of : (r : Rec) → Code r.code → r.spot.begin ≤ r.spot.end → r.second.begin ≤ r.second.end → r.third.begin ≤ r.third.end → Fit r
 fit_of r k a b c = record {
@@ -140,26 +113,12 @@ fit_made : (r : Rec) → Made Straight r → Fit r
 fit_made r (name c h k p) = fit_of r (early_code c k) p (omega arith) (omega arith)
 fit_made r (late q l) = fit_late q l
 
-fit_last : (r : Rec) → Last Straight r → Fit r
-fit_last r (alone c h k p) = fit_of r (outer_code c k) p (omega arith) (omega arith)
-fit_last r (again h v g p q) = record { some_code = omega arith; a_code = omega arith; first = p; second = q; third = omega arith }
-
--- ---- which codes it can have
-
 -- a code of flow, incompatible and dubious is none of names'
-late_code : (r : Rec) → Late Straight r → (7 ≤ r.code) × (r.code ≤ codes)
-late_code r (one c h v k p) = (later_low c k, later_high c k)
-late_code r (two c h v g k p q) = (later_low c k, later_high c k)
-late_code r (three c h v g w k p q u) = (later_low c k, later_high c k)
+late_code : (r : Rec) → Late Straight r → 7 ≤ r.code
+late_code r (one c h v k p) = later_low c k
+late_code r (two c h v g k p q) = later_low c k
+late_code r (three c h v g w k p q u) = later_low c k
 late_code r (double h v g s p q u) = omega arith
-
-made_code : (r : Rec) → Made Straight r → r.code ≤ codes
-made_code r (name c h k p) = let high = early_high c k in omega arith
-made_code r (late q l) = (late_code q l).1
-
-last_code : (r : Rec) → Last Straight r → (18 ≤ r.code) × (r.code ≤ all_codes)
-last_code r (alone c h k p) = (outer_low c k, (outer_code c k).high)
-last_code r (again h v g p q) = omega arith
 
 -- ---- .. and its numbers lead to the nodes that it is made of
 
@@ -180,36 +139,21 @@ module _ (t : List ℕ) where
   placed_made r (name c h k p) = record { first = lies h p; second = inl (refl, refl); named = λ l. p.there }
   placed_made r (late q l) = placed_late q l
 
-  placed_last : (r : Rec) → Last (Sits t) r → Placed t r
-  placed_last r (alone c h k p) =
-      let low = outer_low c k in record { first = lies h p; second = inl (refl, refl); named = not_early c (omega arith) }
-  placed_last r (again h v g p q) = record { first = lies h p; second = inr (lies g q); named = not_early 22 (omega arith) }
+-- ---- the joined list of a valid file
 
--- ---- the joined list of a valid file, with the profile or without
+-- EVERY RECORD makes sense.
+pub file_fit : (t : List ℕ) (f : Facts) → judged t ≡ Valid f → (mode : Mode) → Each Fit (lint_list mode t)
+file_fit t f v mode =
+    each_more (Made Straight) Fit fit_made (lint_list mode t) (file_made Straight t (tree_straight t f (sound t f v)) mode)
 
-module _ (t : List ℕ) (f : Facts) (v : judged t ≡ Valid f) where
-  -- EVERY RECORD makes sense.
-  pub file_fit : (chosen : Profile) (mode : Mode) → Each Fit (profiled_list chosen mode t)
-  file_fit = each_made Straight t (tree_straight t f (sound t f v)) Fit fit_made fit_last
+-- THE NUMBERS of every record are those of nodes of the file that have its first and second span.
+pub file_placed : (t : List ℕ) (f : Facts) → judged t ≡ Valid f → (mode : Mode) → Each (Placed t) (lint_list mode t)
+file_placed t f v mode =
+    each_more (Made (Sits t)) (Placed t) (placed_made t) (lint_list mode t) (file_made (Sits t) t (tree_sits t f (sound t f v)) mode)
 
-  -- THE NUMBERS of every record are those of nodes of the file that have its first and second span.
-  pub file_placed : (chosen : Profile) (mode : Mode) → Each (Placed t) (profiled_list chosen mode t)
-  file_placed = each_made (Sits t) t (tree_sits t f (sound t f v)) (Placed t) (placed_made t) (placed_last t)
-
-  -- AFTER NAMES no record has a code of names.
-  pub file_late : (mode : Mode) → Each (λ r. 7 ≤ r.code) (flow_list t ++ (incompatible_list t ++ dubious_list mode t))
-  file_late mode =
-      each_more (Late Straight) (λ r. 7 ≤ r.code) (λ r l. (late_code r l).0) (flow_list t ++ (incompatible_list t ++ dubious_list mode t))
-      (rest_late Straight t (tree_straight t f (sound t f v)) mode)
-
-  -- WITHOUT THE PROFILE no record has a code of the profile.
-  pub file_ordinary : (mode : Mode) → Each (λ r. r.code ≤ codes) (lint_list mode t)
-  file_ordinary mode =
-      each_more (Made Straight) (λ r. r.code ≤ codes) made_code (lint_list mode t)
-      (file_made Straight t (tree_straight t f (sound t f v)) mode)
-
-  -- THE PROFILE'S records have no other.
-  pub file_last : Each (λ r. (18 ≤ r.code) × (r.code ≤ all_codes)) (profile_list t)
-  file_last =
-      each_more (Last Straight) (λ r. (18 ≤ r.code) × (r.code ≤ all_codes)) last_code (profile_list t)
-      (profile_list_last Straight t (tree_straight t f (sound t f v)))
+-- AFTER NAMES no record has a code of names.
+pub file_late : (t : List ℕ) (f : Facts) → judged t ≡ Valid f → (mode : Mode)
+    → Each (λ r. 7 ≤ r.code) (flow_list t ++ (incompatible_list t ++ dubious_list mode t))
+file_late t f v mode =
+    each_more (Late Straight) (λ r. 7 ≤ r.code) late_code (flow_list t ++ (incompatible_list t ++ dubious_list mode t))
+    (rest_late Straight t (tree_straight t f (sound t f v)) mode)

@@ -1,40 +1,21 @@
 // For measuring: makes the joined call, or one part of it, as often as asked on each file, and prints how many records it gave.
 // Standard input: part and repeats (32 bits each), then files, each after its length (32 bits). Parts: 0 judging alone, 1 names,
-// 2 flow, 3 incompatible, 4 dubious, 5 the joined call, 6 the profile's pass, 7 the joined call with the profile. compare/speed is the same
-// over the Rust, but for 6 and 7.
+// 2 flow, 3 incompatible, 4 dubious, 5 the joined call. compare/speed is the same over the Rust.
 #![tactic(auto)]
 
 use libc::STDOUT_FILENO;
-use rules::{ALL_CODES, Answer, CODES, FullAnswer, Outcome, Profile, WIDTH, WORK_WORDS};
+use rules::{Answer, CODES, Outcome, WIDTH, WORK_WORDS};
 use tree::Mode;
 
 // The words of 2,048 records.
 const ROOM: usize = WIDTH * 2048;
 
-fn records(o: Outcome) -> usize {
+fn count(a: Answer) -> usize {
+    let o = a.outcome;
     match o {
         Outcome::Listed(n) => n,
         Outcome::Refused(_) => 0,
     }
-}
-
-fn count(a: Answer) -> usize {
-    let o = a.outcome;
-    records(o)
-}
-
-fn full_count(a: FullAnswer) -> usize {
-    let o = a.outcome;
-    records(o)
-}
-
-// With the profile.
-fn stricter(part: usize, t: &[u8], work: &mut [u16], out: &mut [u32]) -> usize {
-    let zero = [0usize; ALL_CODES];
-    if part == 6 {
-        return full_count(profile::profile(t, out, zero));
-    }
-    full_count(lint::profiled(t, Mode::Ordinary, Profile::On, work, out))
 }
 
 // One pass, or the joined call.
@@ -52,10 +33,7 @@ fn listed(part: usize, t: &[u8], work: &mut [u16], out: &mut [u32]) -> usize {
     if part == 4 {
         return count(dubious::dubious(t, Mode::Ordinary, out, zero));
     }
-    if part == 5 {
-        return count(lint::lint(t, Mode::Ordinary, work, out));
-    }
-    stricter(part, t, work, out)
+    count(lint::lint(t, Mode::Ordinary, work, out))
 }
 
 fn once(part: usize, t: &[u8], work: &mut [u16], out: &mut [u32]) -> usize {

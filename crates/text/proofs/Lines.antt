@@ -14,7 +14,7 @@ use Rattle.page.specs.Digits.{decimal}
 use Rattle.page.specs.Page.{Wrote}
 use Rattle.page.proofs.Pages.{then, retold, nothing_wrote}
 use Rattle.rules.specs.Record.{words, width}
-use Rattle.rules.specs.Joined.{all_codes}
+use Rattle.rules.specs.Joined.{codes}
 use Rattle.rules.specs.Outcome.{number_of, place_of}
 use Rattle.rules.specs.Afterwards.{record_in, records_in}
 use Rattle.rules.specs.declared.Refusal.{Refusal}
@@ -112,11 +112,11 @@ module _ {o o₁ o₂ : List ℕ} {n n₁ n₂ : ℕ} where
   unfolding refused
   refused_wrote why e f p q = retold 50 (λ rest. refused why ++ rest) (then p q) (omega arith) (λ rest. rw (e, f))
 
-  pub tally_wrote : (asked : Bool) (ns : List ℕ) → asked ≡ true → length ns ≤ all_codes → Wrote o n o₁ n₁ 6 (λ rest. ascii "tally " ++ rest)
-      → Wrote o₁ n₁ o₂ n₂ (21 * length ns) (λ rest. line ns ++ rest) → Wrote o n o₂ n₂ (6 + 21 * all_codes) (λ rest. tally_line asked ns ++ rest)
+  pub tally_wrote : (asked : Bool) (ns : List ℕ) → asked ≡ true → length ns ≡ codes → Wrote o n o₁ n₁ 6 (λ rest. ascii "tally " ++ rest)
+      → Wrote o₁ n₁ o₂ n₂ (21 * length ns) (λ rest. line ns ++ rest) → Wrote o n o₂ n₂ (6 + 21 * codes) (λ rest. tally_line asked ns ++ rest)
   tally_wrote asked ns e l p q =
-      retold (6 + 21 * all_codes) (λ rest. tally_line asked ns ++ rest) (then p q) (omega arith) (λ rest. rw e)
+      retold (6 + 21 * codes) (λ rest. tally_line asked ns ++ rest) (then p q) (omega arith) (λ rest. rw e)
 
 pub tally_none : {o : List ℕ} {n : ℕ} (asked : Bool) (ns : List ℕ) → asked ≡ false
-    → Wrote o n o n (6 + 21 * all_codes) (λ rest. tally_line asked ns ++ rest)
-tally_none {o = o} {n = n} asked ns e = retold (6 + 21 * all_codes) (λ rest. tally_line asked ns ++ rest) (nothing_wrote o n) (omega arith) (λ rest. rw e)
+    → Wrote o n o n (6 + 21 * codes) (λ rest. tally_line asked ns ++ rest)
+tally_none {o = o} {n = n} asked ns e = retold (6 + 21 * codes) (λ rest. tally_line asked ns ++ rest) (nothing_wrote o n) (omega arith) (λ rest. rw e)

@@ -6,99 +6,88 @@ use mathlib.Core.Path.{◌≡◌, refl, sym, ap, ap₂, ◌∙◌}
 use mathlib.Core.Bool.{Bool, true, false}
 use mathlib.Core.List.{List, [], ◌++◌, append_assoc, append-nil}
 use mathlib.Core.Option.{some}
-use lib.ListN.{length, take}
+use lib.ListN.{length}
 use Rattle.tree.specs.declared.Mode.{Mode}
 use Rattle.rules.specs.Record.{Rec, width}
-use Rattle.rules.specs.Joined.{profiled_list, all_codes, codes_of, no_full_tally, tally_to, full_tally_of}
+use Rattle.rules.specs.Joined.{lint_list, no_tally, codes, tally_of}
 use Rattle.rules.specs.Outcome.{refusal}
-use Rattle.rules.specs.Calls.{profiled_call, checks_with_work}
+use Rattle.rules.specs.Calls.{lint_call, checks_with_work}
 use Rattle.rules.specs.Afterwards as after
 use Rattle.rules.specs.Afterwards.{records_in, Lists, WarnedOrRefused, warned}
-use Rattle.rules.specs.declared.Profile.{Profile}
-use Rattle.rules.specs.declared.Profile.TheVariants.{Off, On}
 use Rattle.rules.specs.declared.Refusal.{Refusal}
 use Rattle.rules.specs.declared.Outcome.TheVariants.{Listed, Refused}
 use Rattle.rules.specs.declared.Answer.{Answer}
 use Rattle.rules.proofs.Called.{room_where_listed}
-use Rattle.lint.proofs.Demands.{profiled_demand1, profiled_records, profiled_counts}
+use Rattle.lint.proofs.Demands.{lint_demand1, lint_records, lint_counts}
 use Rattle.page.specs.Page.{page, writes, Wrote}
 use Rattle.page.proofs.Pages.{then, retold}
 use Rattle.text.specs.Text.{listing, refused, counts, told, text_of, done_with, text_call}
 use Rattle.text.specs.Pieces.{tally_line}
 
-counts_line : (asked : Bool) (n : ℕ) (rs : List Rec) → tally_line asked (tally_to n rs) ≡ counts asked n rs
+counts_line : (asked : Bool) (rs : List Rec) → tally_line asked (tally_of rs) ≡ counts asked rs
 unfolding counts
-counts_line true n rs = refl
-counts_line false n rs = refl
+counts_line true rs = refl
+counts_line false rs = refl
 
-pub codes_few : (chosen : Profile) → codes_of chosen ≤ all_codes
-codes_few Off = omega arith
-codes_few On = omega arith
-
--- the counts that are told are the first of all
-told_first : (chosen : Profile) (rs : List Rec) → take (codes_of chosen) (full_tally_of rs) ≡ tally_to (codes_of chosen) rs
-told_first Off rs = refl
-told_first On rs = refl
-
-module _ (chosen : Profile) (mode : Mode) (t work room : List ℕ) (a : Answer) (room' work' : List ℕ)
-    (gives : after.Gives (profiled_call chosen mode t work room) a room' work') where
+module _ (mode : Mode) (t work room : List ℕ) (a : Answer) (room' work' : List ℕ)
+    (gives : after.Gives (lint_call mode t work room) a room' work') where
   abbrev rs : List Rec
-  rs = profiled_list chosen mode t
+  rs = lint_list mode t
 
-  ends : WarnedOrRefused rs t no_full_tally work room a room' work'
-  ends = profiled_demand1 chosen mode t work room a room' work' gives
+  ends : WarnedOrRefused rs t no_tally work room a room' work'
+  ends = lint_demand1 mode t work room a room' work' gives
 
-  where_listed : (n : ℕ) → a.outcome ≡ Listed n → Lists rs t no_full_tally work room a room' work'
+  where_listed : (n : ℕ) → a.outcome ≡ Listed n → Lists rs t no_tally work room a room' work'
   where_listed n i = go ends
     where
-      go : WarnedOrRefused rs t no_full_tally work room a room' work' → Lists rs t no_full_tally work room a room' work'
+      go : WarnedOrRefused rs t no_tally work room a room' work' → Lists rs t no_tally work room a room' work'
       go (warned l) = l
       go (after.refused why l) = let z : ◌≡◌ {A = ℕ} 0 1 = cc (l.outcome, i) in absurd (omega arith)
 
   where_refused : (why : Refusal) → a.outcome ≡ Refused why → refusal (checks_with_work rs t work room) ≡ some why
   where_refused why i = go ends
     where
-      go : WarnedOrRefused rs t no_full_tally work room a room' work' → refusal (checks_with_work rs t work room) ≡ some why
+      go : WarnedOrRefused rs t no_tally work room a room' work' → refusal (checks_with_work rs t work room) ≡ some why
       go (warned l) = let z : ◌≡◌ {A = ℕ} 0 1 = cc (l.outcome, i) in absurd (omega arith)
       go (after.refused w l) = let s : w ≡ why = cc (l.outcome, i) in l.given ∙ ap some s
 
   pub room_for : (n : ℕ) → a.outcome ≡ Listed n → width * n ≤ length room'
-  room_for = room_where_listed rs t work room no_full_tally a room' work' gives
+  room_for = room_where_listed rs t work room no_tally a room' work' gives
 
   -- what a function that wrote the call's text left
   left : (asked : Bool) {o o₁ : List ℕ} {n₁ : ℕ}
-      → Wrote o 0 o₁ n₁ (11 * length room + 500) (λ rest. text_of asked chosen mode t work room ++ rest)
-      → (record { count = n₁; page = o₁; work = work'; room = room' } ≡ text_call asked chosen mode t work room o)
-      × (n₁ ≤ 11 * length room + 500)
+      → Wrote o 0 o₁ n₁ (11 * length room + 400) (λ rest. text_of asked mode t work room ++ rest)
+      → (record { count = n₁; page = o₁; work = work'; room = room' } ≡ text_call asked mode t work room o)
+      × (n₁ ≤ 11 * length room + 400)
   unfolding text_call writes
   left asked {o = o} w = (
-    ap₂ done_with (w.so [] ∙ ap (λ (s : List ℕ). writes (page o 0) s) (append-nil (text_of asked chosen mode t work room))) gives,
+    ap₂ done_with (w.so [] ∙ ap (λ (s : List ℕ). writes (page o 0) s) (append-nil (text_of asked mode t work room))) gives,
     omega (arith, w.most),
   )
 
   -- the list
   pub text_listed : (asked : Bool) (n : ℕ) (i : a.outcome ≡ Listed n) {o o₁ o₂ : List ℕ} {n₁ n₂ : ℕ}
       → Wrote o 0 o₁ n₁ (11 * width * n + 27) (λ rest. listing (records_in n room') ++ rest)
-      → Wrote o₁ n₁ o₂ n₂ (6 + 21 * all_codes) (λ rest. tally_line asked (take (codes_of chosen) a.tally) ++ rest)
-      → (record { count = n₂; page = o₂; work = work'; room = room' } ≡ text_call asked chosen mode t work room o)
-      × (n₂ ≤ 11 * length room + 500)
+      → Wrote o₁ n₁ o₂ n₂ (6 + 21 * codes) (λ rest. tally_line asked a.tally ++ rest)
+      → (record { count = n₂; page = o₂; work = work'; room = room' } ≡ text_call asked mode t work room o)
+      × (n₂ ≤ 11 * length room + 400)
   unfolding text_of told
   text_listed asked n i p q =
       let l = where_listed n i in
-      let r = profiled_records chosen mode t work room a room' work' gives n i in
-      let c = profiled_counts chosen mode t work room a room' work' gives n i ∙ ap full_tally_of r in
+      let r = lint_records mode t work room a room' work' gives n i in
+      let c = lint_counts mode t work room a room' work' gives n i ∙ ap tally_of r in
       let f = room_for n i in
       left asked
-      (retold (11 * length room + 500) (λ rest. text_of asked chosen mode t work room ++ rest) (then p q) (omega (arith, l.as_long))
-      (λ rest. rw (l.none_given, r, c, told_first chosen rs, counts_line asked (codes_of chosen) rs) (sym (append_assoc (listing rs) (counts asked (codes_of chosen) rs) rest))))
+      (retold (11 * length room + 400) (λ rest. text_of asked mode t work room ++ rest) (then p q) (omega (arith, l.as_long))
+      (λ rest. rw (l.none_given, r, c, counts_line asked rs) (sym (append_assoc (listing rs) (counts asked rs) rest))))
 
   -- the refusal
   pub text_refused : (asked : Bool) (why : Refusal) (i : a.outcome ≡ Refused why) {o o₁ : List ℕ} {n₁ : ℕ}
       → Wrote o 0 o₁ n₁ 50 (λ rest. refused why ++ rest)
-      → (record { count = n₁; page = o₁; work = work'; room = room' } ≡ text_call asked chosen mode t work room o)
-      × (n₁ ≤ 11 * length room + 500)
+      → (record { count = n₁; page = o₁; work = work'; room = room' } ≡ text_call asked mode t work room o)
+      × (n₁ ≤ 11 * length room + 400)
   unfolding text_of told
   text_refused asked why i p =
       left asked
-      (retold (11 * length room + 500) (λ rest. text_of asked chosen mode t work room ++ rest) p (omega arith)
+      (retold (11 * length room + 400) (λ rest. text_of asked mode t work room ++ rest) p (omega arith)
       (λ rest. rw (where_refused why i)))

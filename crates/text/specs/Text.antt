@@ -6,10 +6,9 @@ use Rattle.tree.specs.declared.Mode.{Mode}
 use Rattle.page.specs.Digits.{decimal}
 use Rattle.page.specs.Page.{Page, page, writes}
 use Rattle.rules.specs.Record.{Rec, words}
-use Rattle.rules.specs.Joined.{profiled_list, codes_of, tally_to}
+use Rattle.rules.specs.Joined.{lint_list, tally_of}
 use Rattle.rules.specs.Outcome.{number_of, place_of, refusal}
-use Rattle.rules.specs.Calls.{DoneWithWork, checks_with_work, profiled_call}
-use Rattle.rules.specs.declared.Profile.{Profile}
+use Rattle.rules.specs.Calls.{DoneWithWork, checks_with_work, lint_call}
 use Rattle.rules.specs.declared.Refusal.{Refusal}
 
 -- what stands after a number, by the numbers that follow on its line: a space, or the line's end
@@ -35,20 +34,19 @@ listing rs = records rs ++ (ascii "total " ++ line (length rs ∷ []))
 unfoldable pub refused : Refusal → List ℕ
 refused why = ascii "refused " ++ line (number_of why ∷ place_of why ∷ [])
 
--- docs/DESK.md, bit 14: where it is asked for, the count of each of n codes on a line more
-unfoldable pub counts : Bool → ℕ → List Rec → List ℕ
-counts false n rs = []
-counts true n rs = ascii "tally " ++ line (tally_to n rs)
+-- docs/DESK.md, bit 14: where it is asked for, the count of each code on a line more
+unfoldable pub counts : Bool → List Rec → List ℕ
+counts false rs = []
+counts true rs = ascii "tally " ++ line (tally_of rs)
 
 -- the text of a call with this refusal, or with this list
-unfoldable pub told : Bool → ℕ → Option Refusal → List Rec → List ℕ
-told tally n none rs = listing rs ++ counts tally n rs
-told tally n (some why) rs = refused why
+unfoldable pub told : Bool → Option Refusal → List Rec → List ℕ
+told tally none rs = listing rs ++ counts tally rs
+told tally (some why) rs = refused why
 
--- of the joined call on the file t, with the profile or without, lent this work room and this answer room
-unfoldable pub text_of : Bool → Profile → Mode → List ℕ → List ℕ → List ℕ → List ℕ
-text_of tally chosen mode t work room =
-    let rs = profiled_list chosen mode t in told tally (codes_of chosen) (refusal (checks_with_work rs t work room)) rs
+-- of the joined call on the file t, lent this work room and this answer room
+unfoldable pub text_of : Bool → Mode → List ℕ → List ℕ → List ℕ → List ℕ
+text_of tally mode t work room = let rs = lint_list mode t in told tally (refusal (checks_with_work rs t work room)) rs
 
 -- ---- the call
 
@@ -62,6 +60,6 @@ pub record Done : Type 0 where
 abbrev pub done_with : Page → DoneWithWork → Done
 done_with p d = record { count = p.count; page = p.out; work = d.work; room = d.room }
 
-unfoldable pub text_call : Bool → Profile → Mode → List ℕ → List ℕ → List ℕ → List ℕ → Done
-text_call tally chosen mode t work room out =
-    done_with (writes (page out 0) (text_of tally chosen mode t work room)) (profiled_call chosen mode t work room)
+unfoldable pub text_call : Bool → Mode → List ℕ → List ℕ → List ℕ → List ℕ → Done
+text_call tally mode t work room out =
+    done_with (writes (page out 0) (text_of tally mode t work room)) (lint_call mode t work room)

@@ -1,16 +1,16 @@
-// The text of the joined call, with the profile or without: 01's listing, in lent bytes, which a program hands to one write. A byte for which there is no room is only counted.
+// The joined call's text, 01's listing, in lent bytes: a program hands it to one write. A byte for which there is no room is only counted.
 #![tactic(auto)]
 
-ghost use Rattle.std.specs.Prelude.{◌≡◌, ◌∷◌, ◌++◌, ◌+◌, ◌*◌, ◌≤◌, ◌<◌, eqb, length, get_or, take, drop};
+ghost use Rattle.std.specs.Prelude.{◌≡◌, ◌∷◌, ◌++◌, ◌+◌, ◌*◌, ◌≤◌, ◌<◌, eqb, length, get_or, drop};
 ghost use Rattle.rules.specs.Record.{words, width};
-ghost use Rattle.rules.specs.Joined.{all_codes, codes_of};
+ghost use Rattle.rules.specs.Joined.{codes};
 ghost use Rattle.rules.specs.Afterwards.{record_in, records_in};
 ghost use Rattle.page.specs.Page.{Wrote};
 ghost use Rattle.text.specs.Text.{line, records as records-text, listing, refused as refused-text, text_call};
 ghost use Rattle.text.specs.Pieces.{end_of, ended, tally_line};
 
 use page::{count, number, put, raw};
-use rules::{ALL_CODES, CODES, Outcome, Profile, Refusal, WIDTH};
+use rules::{CODES, Outcome, Refusal, WIDTH};
 use tree::Mode;
 
 // What stands after a number: a space, or after the last of its line the line's end.
@@ -104,47 +104,35 @@ pub fn refused(out: &mut [u8], why: Refusal) -> usize
     counts(out, a, &both)
 }
 
-// How many counts are told.
-fn codes_of(chosen: Profile) -> usize
-    ensures { result ≡ codes_of chosen }
-{
-    match chosen {
-        Profile::Off => CODES,
-        Profile::On => ALL_CODES,
-    }
-}
-
 // The count of each code, where it is asked for.
-fn tally(out: &mut [u8], n: usize, asked: bool, chosen: Profile, ns: [usize; ALL_CODES]) -> usize
-    ensures { Wrote out.old n out.new result (6 + 21 * all_codes) (λ rest. tally_line asked (take (codes_of chosen) ns) ++ rest) }
+fn tally(out: &mut [u8], n: usize, asked: bool, ns: [usize; CODES]) -> usize
+    ensures { Wrote out.old n out.new result (6 + 21 * codes) (λ rest. tally_line asked ns ++ rest) }
 {
     if asked {
         let a = raw(out, n, b"tally ");
-        let many = codes_of(chosen);
-        return counts(out, a, &ns[..many]);
+        return counts(out, a, &ns);
     }
     n
 }
 
-// The joined call, with the profile or without, and its text from the first byte of `out` on: how many bytes it has.
+// The joined call, and its text from the first byte of `out` on: how many bytes it has.
 pub fn text(
     t: &[u8],
     mode: Mode,
-    chosen: Profile,
     work: &mut [u16],
     answer: &mut [u32],
     asked: bool,
     out: &mut [u8],
 ) -> usize
-    ensures { (record { count = result; page = out.new; work = work.new; room = answer.new } ≡ text_call asked chosen mode t.now work.old answer.old out.old) × (result ≤ 11 * length answer.old + 500) }
+    ensures { (record { count = result; page = out.new; work = work.new; room = answer.new } ≡ text_call asked mode t.now work.old answer.old out.old) × (result ≤ 11 * length answer.old + 400) }
 {
-    let a = lint::profiled(t, mode, chosen, work, answer);
+    let a = lint::lint(t, mode, work, answer);
     let o = a.outcome;
     let counts = a.tally;
     match o {
         Outcome::Listed(n) => {
             let at = listed(out, answer, n);
-            tally(out, at, asked, chosen, counts)
+            tally(out, at, asked, counts)
         }
         Outcome::Refused(why) => refused(out, why),
     }

@@ -7,7 +7,7 @@ use mathlib.Core.List.{List}
 use borrow.Author.Tests.{lt-ltb, le-ltb}
 use Rattle.tree.specs.Bytes.{size_at}
 use Rattle.tree.specs.Forest.{Forest, none, node, node_head, forest_in, forest_of}
-use Rattle.tree.specs.code.Part.{Part, Subtree}
+use Rattle.tree.specs.code.Part.{Part}
 use Rattle.tree.specs.code.Shape.{count}
 
 -- from any later node on
@@ -56,13 +56,6 @@ module _ {t : List ℕ} {i e : ℕ} (p : Part t i e) (lt : i < e) where
   -- the part after node i and what is below it
   pub rest : Part t (i + size_at t i) e
   rest = later p (omega arith)
-
--- node i with what is below it, as one; and what is below it
-pub whole_at : {t : List ℕ} {i e : ℕ} → Part t i e → i < e → Subtree t i
-whole_at p lt = record { part = first p lt; some = sized p lt }
-
-pub whole_kids : {t : List ℕ} {i : ℕ} → Subtree t i → Part t (i + 1) (i + size_at t i)
-whole_kids w = kids w.part (omega (arith, w.some))
 
 -- one step with fuel left, from what the two calls below it are
 step : (t : List ℕ) (i e k : ℕ) {a b : Forest} → i < e

@@ -1,10 +1,14 @@
 use Rattle.answer.specs.Note.{rec_of}
 use Rattle.answer.proofs.Returns.{put_done}
 use borrow.Author.Rules.{rules}
+use Rattle.answer.proofs.put.Reads as reads
+use Rattle.answer.proofs.emit.Reads as emit-reads
+use Rattle.answer.proofs.raised.Reads as raised-reads
+use Rattle.answer.proofs.up.Reads as up-reads
+use Rattle.answer.proofs.words_of.Reads as words-of-reads
 use Rattle.answer.proofs.put.Goals as goal
 
 pub returns : goal.returns
 unfolding rec_of
 returns c =
-    let a = c.args in
-    put_done a.out.now a.s (rec_of a.t.now a.n) c.store.ensures c.raised.ensures
+    put_done c.args.out.now c.args.s (rec_of c.args.t.now c.args.n) c.words_of.ensures c.emit.ensures c.up.ensures c.raised.ensures

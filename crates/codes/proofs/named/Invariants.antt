@@ -4,8 +4,7 @@ use mathlib.Core.Path.{◌≡◌, refl, ap, ◌∙◌}
 use mathlib.Core.List.{List, ◌++◌}
 use lib.ListN.{length, take, drop, get_or, set, replicate}
 use Rattle.codes.specs.declared.ShortName.{ShortName}
-use Rattle.rules.proofs.Words.{copy_next}
-use Rattle.codes.proofs.Padded.{copied}
+use Rattle.codes.proofs.Padded.{copy_next, copied}
 use Rattle.codes.proofs.named.Reads as reads
 use Rattle.codes.proofs.named.Given as goal
 

@@ -16,15 +16,15 @@ slice-aggregate-requests-2 : tie.Need-slice-aggregate-requests-2
 slice-aggregate-requests-2 c = sym (length-replicate {A = ℕ} 32768 0)
 
 slice-aggregate-requests-3 : tie.Need-slice-aggregate-requests-3
-slice-aggregate-requests-3 c = sym (length-replicate {A = ℕ} (width * 11264) 0)
+slice-aggregate-requests-3 c = sym (length-replicate {A = ℕ} (width * 10240) 0)
 
 slice-aggregate-requests-4 : tie.Need-slice-aggregate-requests-4
-slice-aggregate-requests-4 c = sym (length-replicate {A = ℕ} (11 * (width * 11264) + piece_most) 0)
+slice-aggregate-requests-4 c = sym (length-replicate {A = ℕ} (11 * (width * 10240) + piece_most) 0)
 
 requests-requires : tie.Need-requests-requires
 requests-requires c κs =
-    page_enough (replicate (width * 11264) 0) (replicate (11 * (width * 11264) + piece_most) 0)
-    (length-replicate {A = ℕ} (width * 11264) 0) (length-replicate {A = ℕ} (11 * (width * 11264) + piece_most) 0)
+    page_enough (replicate (width * 10240) 0) (replicate (11 * (width * 10240) + piece_most) 0)
+    (length-replicate {A = ℕ} (width * 10240) 0) (length-replicate {A = ℕ} (11 * (width * 10240) + piece_most) 0)
 
 returns : tie.Need-returns
 returns c = search rules

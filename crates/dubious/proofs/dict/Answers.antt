@@ -5,7 +5,7 @@ use mathlib.Core.Path.{◌≡◌, refl, sym, ap, ◌∙◌}
 use Rattle.tree.specs.code.Part.{Part}
 use Rattle.tree.proofs.Laws.{rest, sized, ended}
 use Rattle.answer.specs.Page.{page}
-use Rattle.answer.proofs.Flat.{Going, going, going_on, gone_end, onward, empty}
+use Rattle.answer.proofs.Flat.{Going, going, going_on, going_end, onward, empty}
 use Rattle.dubious.proofs.Steps.{clash_recs, from_key, dict_start, dict_step, dict_end}
 use Rattle.dubious.proofs.dict.Reads as reads
 use Rattle.dubious.proofs.clash.Reads as clash-reads
@@ -40,4 +40,4 @@ shape_of-out c = c.loop-j.invariant.4.long
 
 pub returns : goal.returns
 returns c =
-    gone_end c.loop-j.invariant.4 (dict_end c.args.numbers.now c.args.t.now c.args.i c.loop-j.j c.args.e c.loop-j-test.false) ∙ rw (dict_start c.args.numbers.now c.args.t.now c.args.i c.args.e)
+    going_end c.loop-j.invariant.4 (dict_end c.args.numbers.now c.args.t.now c.args.i c.loop-j.j c.args.e c.loop-j-test.false) ∙ rw (dict_start c.args.numbers.now c.args.t.now c.args.i c.args.e)

@@ -5,7 +5,7 @@ use mathlib.Core.Path.{◌≡◌, refl, sym, ap, ◌∙◌}
 use Rattle.tree.specs.code.Part.{Part}
 use Rattle.tree.proofs.Laws.{rest, sized, ended}
 use Rattle.answer.specs.Page.{page}
-use Rattle.answer.proofs.Flat.{Going, going, going_on, gone_end, onward, empty}
+use Rattle.answer.proofs.Flat.{Going, going, going_on, going_end, onward, empty}
 use Rattle.dubious.proofs.Steps.{clash_recs, from_key, dict_start, dict_step, dict_end}
 use Rattle.dubious.proofs.dict.Reads as reads
 use Rattle.dubious.proofs.clash.Reads as clash-reads

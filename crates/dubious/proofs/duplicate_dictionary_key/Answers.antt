@@ -6,7 +6,7 @@ use Rattle.tree.proofs.Laws.{later, first, sized}
 use Rattle.rules.specs.Visit.{each}
 use Rattle.rules.specs.Dubious.{dict_at}
 use Rattle.tree.specs.code.Numbers.{like_by}
-use Rattle.answer.proofs.Flat.{Going, going, going_on, gone_end}
+use Rattle.answer.proofs.Flat.{Going, going, going_on, going_end}
 use Rattle.answer.proofs.Each.{each_next, each_past}
 use Rattle.dubious.proofs.duplicate_dictionary_key.Reads as reads
 use Rattle.dubious.proofs.expr.Reads as expr-reads
@@ -34,4 +34,4 @@ shape_of-out c = c.loop-i.invariant.1.long
 
 pub returns : goal.returns
 returns c =
-    gone_end c.loop-i.invariant.1 (each_past (dict_at (like_by c.args.numbers.now)) c.args.t.now c.loop-i.i c.args.n c.loop-i-test.false)
+    going_end c.loop-i.invariant.1 (each_past (dict_at (like_by c.args.numbers.now)) c.args.t.now c.loop-i.i c.args.n c.loop-i-test.false)

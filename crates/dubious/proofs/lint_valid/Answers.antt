@@ -9,7 +9,6 @@ use Rattle.rules.specs.Record.{width}
 use Rattle.rules.specs.Dubious.{dubious_list}
 use Rattle.answer.specs.Page.{writes}
 use Rattle.answer.proofs.Whole.{no_front, short_done, listed_done}
-use Rattle.rules.proofs.Answered.{no_counts}
 use Rattle.dubious.proofs.Keyed.{list_is, list_few}
 use borrow.Author.Rules.{rules}
 use Rattle.dubious.proofs.lint_valid.Goals as goal
@@ -26,7 +25,7 @@ returns-then-out-records c =
     let h : length o / width < c.lint-c.result.count = rw q at c.if-out-records.true in
     let l = list_is t _ v (λ k. omega (arith, c.shared_slice_known-1.given k)) c.args.mode c.key_numbers-numbers.result c.key_numbers-numbers.ensures in
     let few = list_few t _ v (λ k. omega (arith, c.shared_slice_known-1.given k)) c.args.mode c.key_numbers-numbers.result c.key_numbers-numbers.ensures in
-    let z = short_done t _ v (dubious_list c.args.mode t) few o c.args.tally _ _ c.started.result c.lint-c.result c.started.ensures.0 (c.lint-c.ensures ∙ ap (writes _) (sym l)) c.refused.result h c.refused.ensures.0 (c.refused.ensures.1 ∙ no_counts c.args.tally (search rules)) in
+    let z = short_done t _ v (dubious_list c.args.mode t) few o c.args.tally _ _ c.started.result c.lint-c.result c.started.ensures.0 (c.lint-c.ensures ∙ ap (writes _) (sym l)) c.refused.result h c.refused.ensures.0 c.refused.ensures.1 in
     rw q z
 
 pub lint-requires : goal.lint-requires

@@ -8,7 +8,6 @@ use Rattle.rules.specs.Record.{width}
 use Rattle.rules.specs.Flow.{flow_list}
 use Rattle.answer.specs.Page.{writes}
 use Rattle.answer.proofs.Whole.{no_front, short_done, listed_done}
-use Rattle.rules.proofs.Answered.{no_counts}
 use Rattle.flow.proofs.ListIs.{list_is, list_few}
 use borrow.Author.Rules.{rules}
 use Rattle.flow.proofs.lint_valid.Goals as goal
@@ -21,7 +20,7 @@ returns-then-out-records c =
     let q = no_front c.lint-c.new.out o (omega (arith, c.lint-c.auto.out)) in
     let h : length o / width < c.lint-c.result.count = rw q at c.if-out-records.true in
     let l = list_is t _ v (λ k. omega (arith, c.shared_slice_known-1.given k)) c.number_of-fail.result c.number_of-none.result c.strings-texts.result c.number_of-fail.ensures c.number_of-none.ensures c.strings-texts.ensures in
-    let z = short_done t _ v (flow_list t) (list_few t _ v) o c.args.tally _ _ c.started.result c.lint-c.result c.started.ensures.0 (c.lint-c.ensures ∙ ap (writes _) (sym l)) c.refused.result h c.refused.ensures.0 (c.refused.ensures.1 ∙ no_counts c.args.tally (search (rules, c.well_formed))) in
+    let z = short_done t _ v (flow_list t) (list_few t _ v) o c.args.tally _ _ c.started.result c.lint-c.result c.started.ensures.0 (c.lint-c.ensures ∙ ap (writes _) (sym l)) c.refused.result h c.refused.ensures.0 c.refused.ensures.1 in
     rw q z
 
 pub returns : goal.returns

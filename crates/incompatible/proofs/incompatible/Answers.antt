@@ -3,7 +3,6 @@ use Rattle.rules.specs.declared.Outcome.TheVariants.{Refused}
 use Rattle.rules.specs.Incompatible.{incompatible_list}
 use Rattle.answer.specs.Refuse.{refusal_of}
 use Rattle.answer.proofs.Whole.{unfit_done}
-use Rattle.rules.proofs.Answered.{no_counts}
 use borrow.Author.Rules.{rules}
 use Rattle.incompatible.proofs.incompatible.Goals as goal
 
@@ -13,7 +12,7 @@ returns-in_default c =
     unfit_done t _ (incompatible_list t) c.args.out.now c.args.tally c.refused.result
     (sym c.judge-j.ensures ∙ c.in_default.is)
     (c.refused.ensures.0 ∙ ap Refused (c.refusal_of.ensures ∙ ap refusal_of c.judge-j.ensures))
-    (c.refused.ensures.1 ∙ no_counts c.args.tally (search rules))
+    c.refused.ensures.1
 
 pub lint_valid-requires : goal.lint_valid-requires
 lint_valid-requires c = sym c.judge-j.ensures ∙ c.in-Valid.is

@@ -9,7 +9,6 @@ use Rattle.rules.specs.Record.{width}
 use Rattle.rules.specs.Incompatible.{incompatible_list}
 use Rattle.answer.specs.Page.{writes}
 use Rattle.answer.proofs.Whole.{no_front, short_done, listed_done}
-use Rattle.rules.proofs.Answered.{no_counts}
 use Rattle.incompatible.proofs.Valid.{low_names, list_is, list_few}
 use borrow.Author.Rules.{rules}
 use Rattle.incompatible.proofs.lint_valid.Goals as goal
@@ -29,7 +28,7 @@ returns-then-out-records c =
     let h : length o / width < c.lint-c.result.count = rw q at c.if-out-records.true in
     let l = rw (← c.of-allowed.ensures) at (list_is t _ v (λ k. omega (arith, c.shared_slice_known-1.given k)) c.types_of-names.result c.types_of-names.ensures) in
     let few = list_few t _ v in
-    let z = short_done t _ v (incompatible_list t) few o c.args.tally _ _ c.started.result c.lint-c.result c.started.ensures.0 (c.lint-c.ensures ∙ ap (writes _) (sym l)) c.refused.result h c.refused.ensures.0 (c.refused.ensures.1 ∙ no_counts c.args.tally (search (rules, c.well_formed))) in
+    let z = short_done t _ v (incompatible_list t) few o c.args.tally _ _ c.started.result c.lint-c.result c.started.ensures.0 (c.lint-c.ensures ∙ ap (writes _) (sym l)) c.refused.result h c.refused.ensures.0 c.refused.ensures.1 in
     rw q z
 
 pub lint-requires : goal.lint-requires

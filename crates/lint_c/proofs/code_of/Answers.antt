@@ -1,4 +1,4 @@
--- Above 22 there is no code. Assumes nothing.
+-- Above 17 there is no code. Assumes nothing.
 use mathlib.Core.Path.{sym}
 use native.Mathlib.Omega.{arith}
 use borrow.Author.Rules.{rules}
@@ -7,6 +7,6 @@ use Rattle.rules.specs.Codes.{short_name}
 use Rattle.lint_c.proofs.Laws.{no_code}
 use Rattle.lint_c.proofs.code_of.Goals as goal
 
-pub returns-then-code-gt-ALL_CODES : goal.returns-then-code-gt-ALL_CODES
+pub returns-then-code-gt-CODES : goal.returns-then-code-gt-CODES
 unfolding short_name
-returns-then-code-gt-ALL_CODES c = (sym (no_code c.args.code (omega arith)), sym (no_name c.args.code (omega arith)))
+returns-then-code-gt-CODES c = (sym (no_code c.args.code (omega arith)), sym (no_name c.args.code (omega arith)))

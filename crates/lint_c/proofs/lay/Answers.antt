@@ -1,16 +1,13 @@
 -- The loop has laid k words. Assumes nothing.
-use Prim.Native.Nat.{ℕ, ◌+◌, ◌-◌, ◌≤◌, min}
+use Prim.Native.Nat.{ℕ, ◌-◌, ◌≤◌, min}
 use mathlib.Core.Path.{◌≡◌, refl, ap, ◌∙◌}
 use mathlib.Core.List.{List, ◌∷◌}
 use native.Mathlib.Omega.{arith}
-use lib.ListN.{length, get_or, take, set, length-set}
+use lib.ListN.{length, get_or, set, length-set}
 use borrow.Author.Rules.{rules}
 use Rattle.lint_c.specs.Face.{over, laid}
-use Rattle.lint_c.proofs.Laws.{over_more, over_none, laid_first}
+use Rattle.lint_c.proofs.Laws.{over_more, over_none}
 use Rattle.lint_c.proofs.lay.Goals as goal
-
-pub overflow_add-told : goal.overflow_add-told
-overflow_add-told c = omega arith
 
 pub loop-k-init : goal.loop-k-init
 loop-k-init c = (omega arith, refl, over_none _ _)
@@ -37,11 +34,9 @@ loop-k-preserved c =
     )
 
 pub returns : goal.returns
+unfolding laid
 returns c =
     let l = c.loop-k in
     let a = c.args in
-    let m = c.told in
-    let e : l.k ≡ min (m.result + 1) (length a.report.now) = omega arith in
-    l.invariant.2
-    ∙ laid_first a.place a.tally a.report.now m.result l.k (omega arith) e
-    ∙ ap (λ (n : ℕ). laid (a.place ∷ take n a.tally) a.report.now) m.ensures.0
+    let e : l.k ≡ min (length (a.place ∷ a.tally)) (length a.report.now) = omega arith in
+    l.invariant.2 ∙ ap (λ (j : ℕ). over j (a.place ∷ a.tally) a.report.now) e

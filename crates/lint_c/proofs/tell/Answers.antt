@@ -2,8 +2,6 @@
 use Prim.Native.Nat.{ℕ}
 use mathlib.Core.List.{◌∷◌}
 use mathlib.Core.Path.{ap, ◌∙◌}
-use lib.ListN.{take}
-use Rattle.rules.specs.Joined.{codes_of}
 use Rattle.lint_c.specs.Face.{laid}
 use borrow.Author.Rules.{rules}
 use Rattle.lint_c.proofs.tell.Goals as goal
@@ -11,4 +9,4 @@ use Rattle.lint_c.proofs.tell.Goals as goal
 pub returns : goal.returns
 returns c =
     let a = c.args in
-    (c.number_of.ensures, c.lay.ensures ∙ ap (λ (x : ℕ). laid (x ∷ take (codes_of a.chosen) a.a.tally) a.report.now) c.place_of.ensures)
+    (c.number_of.ensures, c.lay.ensures ∙ ap (λ (x : ℕ). laid (x ∷ a.a.tally) a.report.now) c.place_of.ensures)

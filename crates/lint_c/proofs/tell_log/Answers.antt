@@ -2,8 +2,6 @@
 use Prim.Native.Nat.{ℕ}
 use mathlib.Core.List.{[], ◌∷◌, ◌++◌}
 use mathlib.Core.Path.{◌≡◌, ap, ◌∙◌}
-use lib.ListN.{take}
-use Rattle.rules.specs.Joined.{codes_of}
 use Rattle.lint_c.specs.Face.{number_of, place_of, laid, as_listed}
 use borrow.Author.Rules.{rules}
 use Rattle.lint_c.proofs.tell_log.Goals as goal
@@ -18,6 +16,6 @@ returns c =
     let e : p.result ≡ place_of (as_listed a.a.outcome) = p.ensures ∙ ap place_of o.ensures in (
       c.number_of.ensures ∙ ap number_of o.ensures,
       l.ensures
-          ∙ ap (λ (x : ℕ). laid ((x ∷ take (codes_of a.chosen) a.a.tally) ++ (b.result ∷ [])) a.report.now) e
-          ∙ ap (λ (x : ℕ). laid ((place_of (as_listed a.a.outcome) ∷ take (codes_of a.chosen) a.a.tally) ++ (x ∷ [])) a.report.now) b.ensures,
+          ∙ ap (λ (x : ℕ). laid ((x ∷ a.a.tally) ++ (b.result ∷ [])) a.report.now) e
+          ∙ ap (λ (x : ℕ). laid ((place_of (as_listed a.a.outcome) ∷ a.a.tally) ++ (x ∷ [])) a.report.now) b.ensures,
     )

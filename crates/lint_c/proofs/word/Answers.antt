@@ -12,8 +12,8 @@ returns-then-k-lt1 c =
     let e : 0 ≡ c.args.k = omega arith in
     ap (λ (i : ℕ). get_or (c.args.place ∷ c.args.tally) i 0) e
 
-pub returns-then-k-le-ALL_CODES : goal.returns-then-k-le-ALL_CODES
-returns-then-k-le-ALL_CODES c =
+pub returns-then-k-lt-REPORT : goal.returns-then-k-lt-REPORT
+returns-then-k-lt-REPORT c =
     let e : suc (c.args.k - 1) ≡ c.args.k = omega arith in
     ap (λ (i : ℕ). get_or (c.args.place ∷ c.args.tally) i 0) e
 

@@ -7,7 +7,6 @@ use mathlib.Core.List.{List}
 use lib.ListN.{length, replicate, length-replicate}
 use Rattle.io.proofs.Counting.{prefix_len_of_le}
 use Rattle.tree.specs.declared.Mode.TheVariants.{Ordinary}
-use Rattle.rules.specs.declared.Profile.TheVariants.{Off}
 use Rattle.rules.specs.Record.{width}
 use Rattle.rules.specs.Outcome.{work_words}
 use Rattle.text.proofs.Promised.{text_handed}
@@ -15,10 +14,10 @@ use borrow.Author.Rules.{rules}
 use Rattle.listing.proofs.list.Statement.{statement}
 use Rattle.listing.proofs.list.Tie as tie
 
-enough : (room page : List ℕ) → length room ≡ width * 2048 → length page ≡ 11 * (width * 2048) + 500 → 11 * length room + 500 ≤ length page
+enough : (room page : List ℕ) → length room ≡ width * 2048 → length page ≡ 11 * (width * 2048) + 400 → 11 * length room + 400 ≤ length page
 enough room page r p = omega arith
 
-small : (room : List ℕ) → length room ≡ width * 2048 → 11 * length room + 500 ≤ 18446744073709551614
+small : (room : List ℕ) → length room ≡ width * 2048 → 11 * length room + 400 ≤ 18446744073709551614
 small room r = omega arith
 
 slice-aggregate-text : tie.Need-slice-aggregate-text
@@ -40,7 +39,7 @@ array-share-prefix-page c =
 slice-aggregate-hand : tie.Need-slice-aggregate-hand
 slice-aggregate-hand c =
     let call = c.before.before.before.before.text in
-    (prefix_len_of_le call.result call.new.1.1.1.1.1.1.0 (omega (arith, call.ensures.1, length-replicate {A = ℕ} (width * 2048) 0))).1
+    (prefix_len_of_le call.result call.new.1.1.1.1.1.0 (omega (arith, call.ensures.1, length-replicate {A = ℕ} (width * 2048) 0))).1
 
 slice-aggregate-hand-2 : tie.Need-slice-aggregate-hand-2
 slice-aggregate-hand-2 c = search rules
@@ -53,10 +52,10 @@ hand-requires c κs =
     let call = c.before.before.before.before.before.before.text in
     let t = c.before.before.before.before.before.before.before.before.before.before.before.args.t.now in
     let room = length-replicate {A = ℕ} (width * 2048) 0 in
-    let page = length-replicate {A = ℕ} (11 * (width * 2048) + 500) 0 in
-    text_handed false Off Ordinary t (replicate work_words 0) (replicate (width * 2048) 0) (replicate (11 * (width * 2048) + 500) 0)
-    call.result call.new.1.1.1.1.1.1.0 call.new.1.1.1.0 call.new.1.1.1.1.0 call.ensures.0 call.ensures.1
-    (search rules) (search rules) (enough (replicate (width * 2048) 0) (replicate (11 * (width * 2048) + 500) 0) room page) (small (replicate (width * 2048) 0) room)
+    let page = length-replicate {A = ℕ} (11 * (width * 2048) + 400) 0 in
+    text_handed false Ordinary t (replicate work_words 0) (replicate (width * 2048) 0) (replicate (11 * (width * 2048) + 400) 0)
+    call.result call.new.1.1.1.1.1.0 call.new.1.1.0 call.new.1.1.1.0 call.ensures.0 call.ensures.1
+    (search rules) (search rules) (enough (replicate (width * 2048) 0) (replicate (11 * (width * 2048) + 400) 0) room page) (small (replicate (width * 2048) 0) room)
 
 returns : tie.Need-returns
 returns c = search rules

@@ -1,12 +1,10 @@
-use mathlib.Core.Path.{◌∙◌}
 use Rattle.names.proofs.Telling.{short_of, listed_of}
-use Rattle.rules.proofs.Answered.{no_counts}
 use borrow.Author.Rules.{rules}
 use Rattle.names.proofs.answer_of.Goals as goal
 
 pub returns-then-out-n : goal.returns-then-out-n
 returns-then-out-n c =
-    short_of _ _ c.args.n c.requires c.args.out.now _ _ c.if-out-n.true c.refused.ensures.0 (c.refused.ensures.1 ∙ no_counts c.args.tally (search rules))
+    short_of _ _ c.args.n c.requires c.args.out.now _ _ c.if-out-n.true c.refused.ensures.0 c.refused.ensures.1
 
 pub returns : goal.returns
 returns c =

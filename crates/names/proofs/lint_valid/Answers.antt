@@ -1,17 +1,16 @@
 use native.Mathlib.Omega.{arith}
-use mathlib.Core.Path.{sym, ◌∙◌}
+use mathlib.Core.Path.{sym}
 use lib.Seq.{length-take-le}
 use Rattle.rules.specs.Names.{names_list}
 use Rattle.rules.specs.Outcome.{work_words}
 use Rattle.names.proofs.Whole.{file_ready, file_names}
 use Rattle.names.proofs.Telling.{unlent, lent, zeros_front}
-use Rattle.rules.proofs.Answered.{no_counts}
 use borrow.Author.Rules.{rules}
 use Rattle.names.proofs.lint_valid.Goals as goal
 
 pub returns-then-work-lt-WORK_WORDS : goal.returns-then-work-lt-WORK_WORDS
 returns-then-work-lt-WORK_WORDS c =
-    unlent _ _ c.requires (names_list c.args.t.now) _ _ _ _ c.if-work-lt-WORK_WORDS.true c.refused.ensures.0 (c.refused.ensures.1 ∙ no_counts c.args.tally (search rules))
+    unlent _ _ c.requires (names_list c.args.t.now) _ _ _ _ c.if-work-lt-WORK_WORDS.true c.refused.ensures.0 c.refused.ensures.1
 
 pub slice_bounds-lint-end-2 : goal.slice_bounds-lint-end-2
 slice_bounds-lint-end-2 c = sym (length-take-le work_words c.args.work.now c.if-work-lt-WORK_WORDS.false)

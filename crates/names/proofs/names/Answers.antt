@@ -3,13 +3,12 @@ use Rattle.rules.specs.Names.{names_list}
 use Rattle.rules.specs.declared.Outcome.TheVariants.{Refused}
 use Rattle.answer.specs.Refuse.{refusal_of}
 use Rattle.answer.proofs.Whole.{unfit_with_work}
-use Rattle.rules.proofs.Answered.{no_counts}
 use borrow.Author.Rules.{rules}
 use Rattle.names.proofs.names.Goals as goal
 
 pub returns-in_default : goal.returns-in_default
 returns-in_default c =
-    unfit_with_work _ _ (names_list c.args.t.now) _ _ _ _ (sym c.judge-j.ensures ∙ c.in_default.is) (c.refused.ensures.0 ∙ ap Refused (c.refusal_of.ensures ∙ ap refusal_of c.judge-j.ensures)) (c.refused.ensures.1 ∙ no_counts c.args.tally (search rules))
+    unfit_with_work _ _ (names_list c.args.t.now) _ _ _ _ (sym c.judge-j.ensures ∙ c.in_default.is) (c.refused.ensures.0 ∙ ap Refused (c.refusal_of.ensures ∙ ap refusal_of c.judge-j.ensures)) c.refused.ensures.1
 
 pub lint_valid-requires : goal.lint_valid-requires
 lint_valid-requires c = sym c.judge-j.ensures ∙ c.in-Valid.is

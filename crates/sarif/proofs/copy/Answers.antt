@@ -1,5 +1,5 @@
 use lib.ListN.{length, take, drop, set, get_or, length-set}
-use Rattle.rules.proofs.Words.{copy_next}
+use Rattle.codes.proofs.Padded.{copy_next}
 use borrow.Author.Rules.{rules}
 use Prim.Native.Nat.{ℕ, ◌-◌, ◌≤◌}
 use mathlib.Core.List.{List, ◌++◌}

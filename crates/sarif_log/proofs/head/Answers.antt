@@ -9,4 +9,4 @@ use Rattle.sarif_log.proofs.head.Goals as goal
 pub returns : goal.returns
 returns c =
     let tally = c.args.tally in
-    retold 6200 (λ rest. head tally ++ rest) (then c.raw-a.ensures (then c.rules-b.ensures c.raw.ensures)) (omega arith) (head_text tally)
+    retold 4900 (λ rest. head tally ++ rest) (then c.raw-a.ensures (then c.rules-b.ensures c.raw.ensures)) (omega arith) (head_text tally)

@@ -5,7 +5,7 @@ use Rattle.sarif_log.specs.Log.{nonzeros, index_of}
 use lib.ListN.{length, take}
 use mathlib.Core.Path.{◌≡◌, refl, sym, ap, ◌∙◌}
 use native.Mathlib.Omega.{arith}
-use Rattle.rules.specs.Joined.{all_codes}
+use Rattle.rules.specs.Joined.{codes}
 use Rattle.sarif_log.proofs.index_of.Goals as goal
 
 pub loop-k-init : goal.loop-k-init

@@ -7,7 +7,7 @@ use borrow.Author.Rules.{rules as search_rules}
 use Prim.Native.Nat.{◌+◌, ◌*◌, ◌-◌, ◌≤◌, suc}
 use mathlib.Core.Path.{◌≡◌, refl}
 use native.Mathlib.Omega.{arith}
-use Rattle.rules.specs.Joined.{all_codes}
+use Rattle.rules.specs.Joined.{codes}
 use Rattle.sarif_log.proofs.rules.Goals as goal
 
 pub loop-code-init : goal.loop-code-init
@@ -34,4 +34,4 @@ pub returns : goal.returns
 returns c =
     let l = c.loop-code in
     let tally = c.args.tally in
-    turning_last (260 * all_codes) l.invariant.4 (rules_none tally l.code (omega (arith, l.invariant.2, l.invariant.1))) (omega (arith, l.invariant.1))
+    turning_last 4420 l.invariant.4 (rules_none tally l.code (omega (arith, l.invariant.2, l.invariant.1))) (omega (arith, l.invariant.1))

@@ -6,11 +6,11 @@ use mathlib.Core.Bool.{true}
 use Prim.Native.Nat.{◌+◌, ◌*◌, ◌-◌, ◌≤◌, suc}
 use mathlib.Core.Path.{◌≡◌, refl}
 use native.Mathlib.Omega.{arith}
-use Rattle.rules.specs.Joined.{all_codes}
+use Rattle.rules.specs.Joined.{codes}
 use Rattle.sarif_log.proofs.rules.Given as goal
 
 abbrev pub invariant-loop-code : goal.invariant-loop-code
-invariant-loop-code l = (1 ≤ l.code) × (l.code ≤ (suc all_codes)) × (length l.tally ≡ all_codes) × (length l.out ≡ length l.initial.out) × Turning l.initial.out l.n l.out l.at (260 * (l.code - 1)) (lines true (rules 1 l.tally)) (rules_left l.tally l.code)
+invariant-loop-code l = (1 ≤ l.code) × (l.code ≤ (suc codes)) × (length l.tally ≡ codes) × (length l.out ≡ length l.initial.out) × Turning l.initial.out l.n l.out l.at (260 * (l.code - 1)) (lines true (rules 1 l.tally)) (rules_left l.tally l.code)
 
 abbrev pub decreases-loop-code : goal.decreases-loop-code
-decreases-loop-code l = (suc all_codes) - l.code
+decreases-loop-code l = (suc codes) - l.code

@@ -1,5 +1,4 @@
 -- The list with its counts, or the refusal. Assumes nothing.
-use Rattle.rules.specs.Outcome.{in_full}
 use Rattle.text.proofs.Told.{room_for, text_listed, text_refused}
 use borrow.Author.Rules.{rules}
 use Rattle.text.proofs.text.Goals as goal
@@ -7,14 +6,14 @@ use Rattle.text.proofs.text.Goals as goal
 pub listed-at-requires : goal.listed-at-requires
 listed-at-requires c =
     let a = c.args in
-    room_for a.chosen a.mode a.t.now a.work.now a.answer.now (in_full c.profiled-a.result) c.profiled-a.new.out c.profiled-a.new.work c.profiled-a.ensures c.in-Listed.n c.in-Listed.is
+    room_for a.mode a.t.now a.work.now a.answer.now c.lint-a.result c.lint-a.new.out c.lint-a.new.work c.lint-a.ensures c.in-Listed.n c.in-Listed.is
 
 pub returns-in-Listed : goal.returns-in-Listed
 returns-in-Listed c =
     let a = c.args in
-    text_listed a.chosen a.mode a.t.now a.work.now a.answer.now (in_full c.profiled-a.result) c.profiled-a.new.out c.profiled-a.new.work c.profiled-a.ensures a.asked c.in-Listed.n c.in-Listed.is c.listed-at.ensures c.tally.ensures
+    text_listed a.mode a.t.now a.work.now a.answer.now c.lint-a.result c.lint-a.new.out c.lint-a.new.work c.lint-a.ensures a.asked c.in-Listed.n c.in-Listed.is c.listed-at.ensures c.tally.ensures
 
 pub returns-in-Refused : goal.returns-in-Refused
 returns-in-Refused c =
     let a = c.args in
-    text_refused a.chosen a.mode a.t.now a.work.now a.answer.now (in_full c.profiled-a.result) c.profiled-a.new.out c.profiled-a.new.work c.profiled-a.ensures a.asked c.in-Refused.why c.in-Refused.is c.refused.ensures
+    text_refused a.mode a.t.now a.work.now a.answer.now c.lint-a.result c.lint-a.new.out c.lint-a.new.work c.lint-a.ensures a.asked c.in-Refused.why c.in-Refused.is c.refused.ensures

@@ -9,9 +9,6 @@ use Rattle.desk.proofs.answers.list.Tie as tie
 mode-requires : tie.Need-mode-requires
 mode-requires c κs = search rules
 
-profile-requires : tie.Need-profile-requires
-profile-requires c κs = search rules
-
 tally-requires : tie.Need-tally-requires
 tally-requires c κs = search rules
 
@@ -26,18 +23,18 @@ raw-requires c κs = search rules
 
 slice-reshare-prefix-hand-list : tie.Need-slice-reshare-prefix-hand-list
 slice-reshare-prefix-hand-list c =
-    omega (arith, c.before.before.raw.ensures.most, c.before.before.before.before.before.before.before.before.before.before.before.text.ensures.1, c.before.before.before.before.before.before.before.before.before.before.before.before.before.before.before.before.before.before.before.before.before.before.requires.0)
+    omega (arith, c.before.before.raw.ensures.most, c.before.before.before.before.before.before.before.before.before.before.before.text.ensures.1, c.before.before.before.before.before.before.before.before.before.before.before.before.before.before.before.before.before.before.before.before.before.requires.0)
 
 slice-aggregate-hand-list : tie.Need-slice-aggregate-hand-list
 slice-aggregate-hand-list c =
-    (prefix_len_of_le c.before.before.before.raw.result c.before.before.before.raw.new.0 (omega (arith, c.before.before.before.raw.ensures.most, c.before.before.before.before.before.before.before.before.before.before.before.before.text.ensures.1, c.before.before.before.before.before.before.before.before.before.before.before.before.before.before.before.before.before.before.before.before.before.before.before.requires.0))).1
+    (prefix_len_of_le c.before.before.before.raw.result c.before.before.before.raw.new.0 (omega (arith, c.before.before.before.raw.ensures.most, c.before.before.before.before.before.before.before.before.before.before.before.before.text.ensures.1, c.before.before.before.before.before.before.before.before.before.before.before.before.before.before.before.before.before.before.before.before.before.before.requires.0))).1
 
 hand-list-requires : tie.Need-hand-list-requires
 hand-list-requires c κs =
     let call = c.before.before.before.before.before.before.before.before.before.before.before.before.before.before.text in
-    let a = c.before.before.before.before.before.before.before.before.before.before.before.before.before.before.before.before.before.before.before.before.before.before.before.before.before.args in
-    list_handed a.choices a.t.now a.work.now a.answer.now a.page.now c.before.before.before.before.before.before.before.before.before.before.before.before.before.before.before.before.tally.result c.before.before.before.before.before.before.before.before.before.before.before.before.before.before.before.before.before.before.before.profile.result c.before.before.before.before.before.before.before.before.before.before.before.before.before.before.before.before.before.before.before.before.mode.result c.before.before.before.before.before.before.before.before.before.before.before.before.before.before.before.before.tally.ensures c.before.before.before.before.before.before.before.before.before.before.before.before.before.before.before.before.before.before.before.profile.ensures c.before.before.before.before.before.before.before.before.before.before.before.before.before.before.before.before.before.before.before.before.mode.ensures
-    call.result call.new.1.1.1.1.1.1.0 call.new.1.1.1.0 call.new.1.1.1.1.0 call.ensures.0 call.ensures.1 (search rules) (search rules) c.before.before.before.before.before.raw.ensures c.before.before.before.before.before.before.before.before.before.before.before.before.before.before.before.before.before.before.before.before.before.before.before.before.before.requires
+    let a = c.before.before.before.before.before.before.before.before.before.before.before.before.before.before.before.before.before.before.before.before.before.before.before.before.args in
+    list_handed a.choices a.t.now a.work.now a.answer.now a.page.now c.before.before.before.before.before.before.before.before.before.before.before.before.before.before.before.before.tally.result c.before.before.before.before.before.before.before.before.before.before.before.before.before.before.before.before.before.before.before.mode.result c.before.before.before.before.before.before.before.before.before.before.before.before.before.before.before.before.tally.ensures c.before.before.before.before.before.before.before.before.before.before.before.before.before.before.before.before.before.before.before.mode.ensures
+    call.result call.new.1.1.1.1.1.0 call.new.1.1.0 call.new.1.1.1.0 call.ensures.0 call.ensures.1 (search rules) (search rules) c.before.before.before.before.before.raw.ensures c.before.before.before.before.before.before.before.before.before.before.before.before.before.before.before.before.before.before.before.before.before.before.before.before.requires
 
 same_length : tie.Need-same-length
 same_length c = search rules
@@ -56,7 +53,6 @@ list-spec =
     tie.close
     (tie.spec
     mode-requires
-    profile-requires
     tally-requires
     text-requires
     slice-aggregate-raw

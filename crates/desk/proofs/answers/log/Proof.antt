@@ -1,6 +1,5 @@
 -- The list is the rules', and its log can be written. Assumes nothing.
 use native.Mathlib.Omega.{arith}
-use Rattle.rules.specs.Outcome.{in_full}
 use Rattle.desk.proofs.Handed.{lists}
 use borrow.Author.Rules.{rules}
 use Rattle.desk.proofs.answers.log.Statement.{statement}
@@ -9,20 +8,17 @@ use Rattle.desk.proofs.answers.log.Tie as tie
 mode-requires : tie.Need-mode-requires
 mode-requires c κs = search rules
 
-profile-requires : tie.Need-profile-requires
-profile-requires c κs = search rules
-
-profiled-requires : tie.Need-profiled-requires
-profiled-requires c κs = search rules
+lint-requires : tie.Need-lint-requires
+lint-requires c κs = search rules
 
 enum-known-o : tie.Need-enum-known-o
 enum-known-o c = search rules
 
 logged-requires : tie.Need-logged-requires
 logged-requires c κs =
-    let call = c.before.before.before.before.before.before.before.before.before.before.profiled in
-    let a = c.before.before.before.before.before.before.before.before.before.before.before.before.before.before.before.before.before.before.before.args in
-    (lists a.choices a.t.now a.work.now a.answer.now c.before.before.before.before.before.before.before.before.before.before.before.before.before.profile.result c.before.before.before.before.before.before.before.before.before.before.before.before.before.before.mode.result c.before.before.before.before.before.before.before.before.before.before.before.before.before.profile.ensures c.before.before.before.before.before.before.before.before.before.before.before.before.before.before.mode.ensures (in_full call.result) call.new.1.1.1.1.0 call.new.1.1.1.0 call.ensures c.before.before.before.o.given.0.0 c.before.before.before.o.given.1, omega (arith, c.before.before.before.before.before.before.before.before.before.before.before.before.before.before.before.before.before.before.before.requires))
+    let call = c.before.before.before.before.before.before.before.before.before.before.lint in
+    let a = c.before.before.before.before.before.before.before.before.before.before.before.before.before.before.before.before.before.before.args in
+    (lists a.choices a.t.now a.work.now a.answer.now c.before.before.before.before.before.before.before.before.before.before.before.before.before.mode.result c.before.before.before.before.before.before.before.before.before.before.before.before.before.mode.ensures call.result call.new.1.1.1.0 call.new.1.1.0 call.ensures c.before.before.before.o.given.0.0 c.before.before.before.o.given.1, omega (arith, c.before.before.before.before.before.before.before.before.before.before.before.before.before.before.before.before.before.before.requires))
 
 enum-known-o-2 : tie.Need-enum-known-o-2
 enum-known-o-2 c = search rules
@@ -59,8 +55,7 @@ log-spec =
     tie.close
     (tie.spec
     mode-requires
-    profile-requires
-    profiled-requires
+    lint-requires
     enum-known-o
     logged-requires
     enum-known-o-2

@@ -1,10 +1,9 @@
-use Rattle.tree.proofs.Laws.{whole_kids}
 use native.Mathlib.Omega.{arith}
 use borrow.Author.Rules.{rules}
 use mathlib.Core.Path.{◌≡◌, sym, ◌∙◌}
 use Rattle.tree.specs.Bytes.{kind_at}
 use Rattle.answer.specs.Page.{page}
-use Rattle.flow.proofs.Steps.{idle_no, idle_acts, idle_put}
+use Rattle.flow.proofs.Steps.{below, idle_no, idle_acts, idle_put}
 use Rattle.flow.proofs.effect.idle.Goals as goal
 
 pub returns-then-kind_at-ne5 : goal.returns-then-kind_at-ne5
@@ -18,7 +17,7 @@ pub overflow_add-i : goal.overflow_add-i
 overflow_add-i c = omega (arith, c.requires.0.part.few)
 
 pub has_effect-requires : goal.has_effect-requires
-has_effect-requires c = rw c.size_at.ensures.0 (whole_kids c.requires.0)
+has_effect-requires c = rw c.size_at.ensures.0 (below c.requires.0)
 
 pub returns-then-has_effect : goal.returns-then-has_effect
 returns-then-has_effect c =

@@ -1,8 +1,7 @@
-use Rattle.tree.proofs.Laws.{whole_kids}
 use native.Mathlib.Omega.{arith}
 use borrow.Author.Rules.{rules}
 use mathlib.Core.Path.{sym, ◌∙◌}
-use Rattle.flow.proofs.Steps.{may_list, may_load, may_text, may_not, may_end}
+use Rattle.flow.proofs.Steps.{below, may_list, may_load, may_text, may_not, may_end}
 use Rattle.flow.proofs.loads.allows.Goals as goal
 
 pub returns-then-k-eq8 : goal.returns-then-k-eq8
@@ -20,7 +19,7 @@ pub overflow_add-j-then-allowed : goal.overflow_add-j-then-allowed
 overflow_add-j-then-allowed c = omega (arith, c.requires.part.few, c.size_at.ensures.0)
 
 pub is_text-requires : goal.is_text-requires
-is_text-requires c = rw c.size_at.ensures.0 (whole_kids c.requires)
+is_text-requires c = rw c.size_at.ensures.0 (below c.requires)
 
 pub returns-then-allowed : goal.returns-then-allowed
 returns-then-allowed c =

@@ -4,11 +4,11 @@ use Prim.Native.Nat.{◌-◌}
 use mathlib.Core.Bool.{true}
 use Rattle.tree.specs.Forest.{forest_of}
 use Rattle.tree.specs.code.Part.{Part}
-use Rattle.tree.proofs.Laws.{sized, later, whole_at}
+use Rattle.tree.proofs.Laws.{sized, later}
 use Rattle.rules.specs.Flow.{loads}
-use Rattle.answer.proofs.Flat.{Going, going, going_on, gone_end}
+use Rattle.answer.proofs.Flat.{Going, going, going_on, going_end}
 use Rattle.flow.specs.Walks.{is_text}
-use Rattle.flow.proofs.Steps.{loads_past, loads_next, into_after}
+use Rattle.flow.proofs.Steps.{whole_at, loads_past, loads_next, into_after}
 use Rattle.flow.proofs.loads.misplaced_load.Goals as goal
 
 pub loop-j-init : goal.loop-j-init
@@ -33,4 +33,4 @@ shape_of-out c = c.loop-j.invariant.1.long
 
 pub returns : goal.returns
 returns c =
-    gone_end c.loop-j.invariant.1 (loads_past (is_text c.args.strings.now) c.loop-j.allowed c.args.t.now c.loop-j.j c.args.n c.loop-j-test.false)
+    going_end c.loop-j.invariant.1 (loads_past (is_text c.args.strings.now) c.loop-j.allowed c.args.t.now c.loop-j.j c.args.n c.loop-j-test.false)

@@ -6,10 +6,11 @@ use mathlib.Core.Bool.{true, false}
 use Rattle.tree.specs.Bytes.{size_at}
 use Rattle.tree.specs.Forest.{forest_of}
 use Rattle.tree.specs.code.Part.{Part}
-use Rattle.tree.proofs.Laws.{rest, sized, ended, whole_at, whole_kids}
+use Rattle.tree.proofs.Laws.{rest, sized, ended}
 use Rattle.rules.specs.Flow.{reached, in_List as in-a-list, one_by_one as each-one}
 use Rattle.answer.proofs.Flat.{Going, going, going_on}
 use Rattle.flow.specs.Walks.{is_name, left}
+use Rattle.flow.proofs.Steps.{whole_at, below}
 use Rattle.flow.proofs.Reaching.{walked_as, walked_still, walked_two, goes_in, goes_free, here_list, here_sides, here_fails, here_stops, here_each, list_again, each_next, each_done, list_done, side_there, side_absent, side_whole, side_low, side_ends}
 use Rattle.flow.proofs.reach.each.Reads as each
 use Rattle.flow.proofs.reach.in_list.Reads as in_List
@@ -92,7 +93,7 @@ reachable-overflow_add-i t c = omega (arith, c.requires.part.few)
 
 pub reachable-in_list-requires : goal.reachable-in_list-requires
 reachable-in_list-requires t c =
-    rw c.size_at.ensures.0 (omega (arith, c.decreases, c.requires.some), (whole_kids c.requires, omega (arith, c.requires.some)))
+    rw c.size_at.ensures.0 (omega (arith, c.decreases, c.requires.some), (below c.requires, omega (arith, c.requires.some)))
 
 pub reachable-returns-then-k-eq8 : goal.reachable-returns-then-k-eq8
 reachable-returns-then-k-eq8 t c =
@@ -103,7 +104,7 @@ reachable-overflow_add-i-then-k-eq10 t c = omega (arith, c.requires.part.few)
 
 pub reachable-sides-requires : goal.reachable-sides-requires
 reachable-sides-requires t c =
-    rw c.size_at.ensures.0 (omega (arith, c.decreases, c.requires.some), (whole_kids c.requires, omega (arith, c.requires.some)))
+    rw c.size_at.ensures.0 (omega (arith, c.decreases, c.requires.some), (below c.requires, omega (arith, c.requires.some)))
 
 pub reachable-returns-then-k-eq10 : goal.reachable-returns-then-k-eq10
 reachable-returns-then-k-eq10 t c =
@@ -114,7 +115,7 @@ reachable-overflow_add-i-then-k-eq5 t c = omega (arith, c.requires.part.few)
 
 pub reachable-returns-then-k-eq5 : goal.reachable-returns-then-k-eq5
 reachable-returns-then-k-eq5 t c =
-    walked_as (walked_still c.args.out.now c.args.s c.is_fail.result) (here_fails (is_name c.args.fail) c.args.t.now c.args.i (ap (λ (x : ℕ). c.args.i + x) c.size_at.ensures.0) (sym c.kind_at-k.ensures.0 ∙ c.if-k-eq5.true) (c.is_fail.ensures (rw c.size_at.ensures.0 (whole_kids c.requires))))
+    walked_as (walked_still c.args.out.now c.args.s c.is_fail.result) (here_fails (is_name c.args.fail) c.args.t.now c.args.i (ap (λ (x : ℕ). c.args.i + x) c.size_at.ensures.0) (sym c.kind_at-k.ensures.0 ∙ c.if-k-eq5.true) (c.is_fail.ensures (rw c.size_at.ensures.0 (below c.requires))))
 
 pub reachable-returns-then-stops : goal.reachable-returns-then-stops
 reachable-returns-then-stops t c =
@@ -125,7 +126,7 @@ reachable-overflow_add-i-2 t c = omega (arith, c.requires.part.few)
 
 pub reachable-each-requires : goal.reachable-each-requires
 reachable-each-requires t c =
-    rw c.size_at.ensures.0 (omega (arith, c.decreases, c.requires.some), (whole_kids c.requires, omega (arith, c.requires.some)))
+    rw c.size_at.ensures.0 (omega (arith, c.decreases, c.requires.some), (below c.requires, omega (arith, c.requires.some)))
 
 pub reachable-returns : goal.reachable-returns
 reachable-returns t c =

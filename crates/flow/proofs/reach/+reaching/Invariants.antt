@@ -6,10 +6,11 @@ use mathlib.Core.Bool.{true, false}
 use Rattle.tree.specs.Bytes.{size_at}
 use Rattle.tree.specs.Forest.{forest_of}
 use Rattle.tree.specs.code.Part.{Part}
-use Rattle.tree.proofs.Laws.{rest, sized, ended, whole_at, whole_kids}
+use Rattle.tree.proofs.Laws.{rest, sized, ended}
 use Rattle.rules.specs.Flow.{reached, in_List as in-a-list, one_by_one as each-one}
 use Rattle.answer.proofs.Flat.{Going, going, going_on}
 use Rattle.flow.specs.Walks.{is_name, left}
+use Rattle.flow.proofs.Steps.{whole_at, below}
 use Rattle.flow.proofs.Reaching.{walked_as, walked_still, walked_two, goes_in, goes_free, here_list, here_sides, here_fails, here_stops, here_each, list_again, each_next, each_done, list_done, side_there, side_absent, side_whole, side_low, side_ends}
 use Rattle.flow.proofs.reach.each.Reads as each
 use Rattle.flow.proofs.reach.in_list.Reads as in_List

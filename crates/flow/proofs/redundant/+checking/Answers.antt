@@ -3,9 +3,10 @@ use borrow.Author.Rules.{rules}
 use Prim.Native.Nat.{◌+◌, ◌*◌, ◌-◌, ℕ, ◌<◌}
 use mathlib.Core.Path.{sym, ap, ◌∙◌}
 use Rattle.tree.specs.Bytes.{size_at}
-use Rattle.tree.proofs.Laws.{later, ended, whole_kids}
+use Rattle.tree.proofs.Laws.{later, ended}
 use Rattle.answer.specs.Page.{page}
 use Rattle.answer.proofs.Flat.{walked_both}
+use Rattle.flow.proofs.Steps.{below}
 use Rattle.flow.proofs.Tails.{check_continue, check_return, check_list, check_if, check_sides, check_other, last_whole, last_none, last_checked}
 use Rattle.flow.proofs.redundant.check.Reads as check
 use Rattle.flow.proofs.redundant.last.Reads as last
@@ -36,7 +37,7 @@ check-overflow_add-i t c = omega (arith, c.requires.part.few)
 
 pub check-last-requires : goal.check-last-requires
 check-last-requires t c =
-    rw c.size_at.ensures.0 (omega (arith, c.decreases, c.requires.some), (whole_kids c.requires, omega (arith, c.requires.some)))
+    rw c.size_at.ensures.0 (omega (arith, c.decreases, c.requires.some), (below c.requires, omega (arith, c.requires.some)))
 
 pub check-returns-then-k-eq8 : goal.check-returns-then-k-eq8
 check-returns-then-k-eq8 t c =
@@ -47,7 +48,7 @@ check-overflow_add-i-then-k-eq9 t c = omega (arith, c.requires.part.few)
 
 pub check-last-requires-then-k-eq9 : goal.check-last-requires-then-k-eq9
 check-last-requires-then-k-eq9 t c =
-    rw c.size_at.ensures.0 (omega (arith, c.decreases, c.requires.some), (whole_kids c.requires, omega (arith, c.requires.some)))
+    rw c.size_at.ensures.0 (omega (arith, c.decreases, c.requires.some), (below c.requires, omega (arith, c.requires.some)))
 
 pub check-returns-then-k-eq9 : goal.check-returns-then-k-eq9
 check-returns-then-k-eq9 t c =
@@ -58,7 +59,7 @@ check-overflow_add-i-then-k-eq10 t c = omega (arith, c.requires.part.few)
 
 pub check-sides-requires : goal.check-sides-requires
 check-sides-requires t c =
-    rw c.size_at.ensures.0 (omega (arith, c.decreases, c.requires.some), (whole_kids c.requires, omega (arith, c.requires.some)))
+    rw c.size_at.ensures.0 (omega (arith, c.decreases, c.requires.some), (below c.requires, omega (arith, c.requires.some)))
 
 pub check-returns-then-k-eq10 : goal.check-returns-then-k-eq10
 check-returns-then-k-eq10 t c =

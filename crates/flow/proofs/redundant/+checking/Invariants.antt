@@ -3,9 +3,10 @@ use borrow.Author.Rules.{rules}
 use Prim.Native.Nat.{◌+◌, ◌*◌, ◌-◌, ℕ, ◌<◌}
 use mathlib.Core.Path.{sym, ap, ◌∙◌}
 use Rattle.tree.specs.Bytes.{size_at}
-use Rattle.tree.proofs.Laws.{later, ended, whole_kids}
+use Rattle.tree.proofs.Laws.{later, ended}
 use Rattle.answer.specs.Page.{page}
 use Rattle.answer.proofs.Flat.{walked_both}
+use Rattle.flow.proofs.Steps.{below}
 use Rattle.flow.proofs.Tails.{check_continue, check_return, check_list, check_if, check_sides, check_other, last_whole, last_none, last_checked}
 use Rattle.flow.proofs.redundant.check.Reads as check
 use Rattle.flow.proofs.redundant.last.Reads as last

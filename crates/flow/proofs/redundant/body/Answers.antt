@@ -1,9 +1,9 @@
-use Rattle.tree.proofs.Laws.{whole_kids}
 use native.Mathlib.Omega.{arith}
 use borrow.Author.Rules.{rules}
 use Prim.Native.Nat.{ℕ, ◌+◌}
 use mathlib.Core.Path.{sym, ap, ◌∙◌}
 use Rattle.answer.specs.Page.{page}
+use Rattle.flow.proofs.Steps.{below}
 use Rattle.flow.proofs.Tails.{body_for, body_def, body_other}
 use Rattle.flow.proofs.redundant.body.Goals as goal
 
@@ -14,7 +14,7 @@ pub overflow_add-i : goal.overflow_add-i
 overflow_add-i c = omega (arith, c.requires.part.few)
 
 pub last-requires : goal.last-requires
-last-requires c = rw c.size_at.ensures.0 (whole_kids c.requires, omega (arith, c.requires.some))
+last-requires c = rw c.size_at.ensures.0 (below c.requires, omega (arith, c.requires.some))
 
 pub returns-then-k-eq11 : goal.returns-then-k-eq11
 returns-then-k-eq11 c =
@@ -24,7 +24,7 @@ pub overflow_add-i-then-k-eq12 : goal.overflow_add-i-then-k-eq12
 overflow_add-i-then-k-eq12 c = omega (arith, c.requires.part.few)
 
 pub last-requires-then-k-eq12 : goal.last-requires-then-k-eq12
-last-requires-then-k-eq12 c = rw c.size_at.ensures.0 (whole_kids c.requires, omega (arith, c.requires.some))
+last-requires-then-k-eq12 c = rw c.size_at.ensures.0 (below c.requires, omega (arith, c.requires.some))
 
 pub returns-then-k-eq12 : goal.returns-then-k-eq12
 returns-then-k-eq12 c =

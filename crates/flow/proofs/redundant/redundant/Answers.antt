@@ -3,9 +3,10 @@ use Prim.Native.Nat.{◌-◌}
 use mathlib.Core.Path.{ap, ◌∙◌}
 use Rattle.tree.specs.Forest.{forest_of}
 use Rattle.tree.specs.code.Part.{Part}
-use Rattle.tree.proofs.Laws.{later, whole_at}
+use Rattle.tree.proofs.Laws.{later}
 use Rattle.rules.specs.Flow.{redundant_walk}
-use Rattle.answer.proofs.Flat.{Going, going, going_on, gone_end}
+use Rattle.answer.proofs.Flat.{Going, going, going_on, going_end}
+use Rattle.flow.proofs.Steps.{whole_at}
 use Rattle.answer.specs.Page.{page, writes}
 use Rattle.flow.proofs.Tails.{redundant_next, redundant_past, below_all}
 use Rattle.flow.proofs.redundant.redundant.Goals as goal
@@ -31,4 +32,4 @@ shape_of-out c = c.loop-i.invariant.1.long
 
 pub returns : goal.returns
 returns c =
-    gone_end c.loop-i.invariant.1 (redundant_past c.args.t.now c.loop-i.i c.args.n c.loop-i-test.false) ∙ ap (writes (page c.args.out.now c.args.s)) (below_all c.requires.0 c.requires.1)
+    going_end c.loop-i.invariant.1 (redundant_past c.args.t.now c.loop-i.i c.args.n c.loop-i-test.false) ∙ ap (writes (page c.args.out.now c.args.s)) (below_all c.requires.0 c.requires.1)

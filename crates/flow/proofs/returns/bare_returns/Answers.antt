@@ -3,7 +3,7 @@ use Prim.Native.Nat.{◌-◌}
 use Rattle.tree.specs.Forest.{forest_of, node_head, node_spot}
 use Rattle.tree.proofs.Laws.{sized}
 use Rattle.rules.specs.Flow.{everything, returns as returns-in, bare_recs}
-use Rattle.answer.proofs.Flat.{Going, going, going_on, gone_end}
+use Rattle.answer.proofs.Flat.{Going, going, going_on, going_end}
 use Rattle.flow.specs.Returns.{Tidy}
 use Rattle.flow.proofs.ReturnsLaws.{tidy_later, tidy_whole, step_some, bare_next, bare_past}
 use Rattle.flow.proofs.returns.bare_returns.Goals as goal
@@ -29,4 +29,5 @@ pub shape_of-out : goal.shape_of-out
 shape_of-out c = c.loop-j.invariant.1.long
 
 pub returns : goal.returns
-returns c = gone_end c.loop-j.invariant.1 (bare_past (node_head c.args.t.now c.args.i) (node_spot c.args.t.now c.args.name) (node_head c.args.t.now c.args.why) c.args.t.now c.loop-j.j c.args.e c.loop-j-test.false)
+returns c =
+    going_end c.loop-j.invariant.1 (bare_past (node_head c.args.t.now c.args.i) (node_spot c.args.t.now c.args.name) (node_head c.args.t.now c.args.why) c.args.t.now c.loop-j.j c.args.e c.loop-j-test.false)

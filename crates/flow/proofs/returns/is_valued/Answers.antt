@@ -1,7 +1,6 @@
-use Rattle.tree.proofs.Laws.{whole_kids}
 use native.Mathlib.Omega.{arith}
 use Prim.Native.Nat.{◌-◌}
-use Rattle.flow.proofs.ReturnsLaws.{has_child}
+use Rattle.flow.proofs.ReturnsLaws.{whole_kids, has_child}
 use borrow.Author.Rules.{rules}
 use Rattle.flow.proofs.returns.is_valued.Goals as goal
 

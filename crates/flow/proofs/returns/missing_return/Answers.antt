@@ -1,10 +1,9 @@
-use Rattle.tree.proofs.Laws.{whole_kids}
 use Prim.Native.Nat.{◌-◌}
 use mathlib.Core.Path.{sym, ◌∙◌}
 use Rattle.tree.specs.Forest.{node_head}
 use Rattle.answer.specs.Page.{page}
 use Rattle.answer.specs.Note.{rec_of, span_of, value_of, node_of}
-use Rattle.flow.proofs.ReturnsLaws.{unless_so, unless_put}
+use Rattle.flow.proofs.ReturnsLaws.{whole_kids, unless_so, unless_put}
 use borrow.Author.Rules.{rules}
 use Rattle.flow.proofs.returns.missing_return.Goals as goal
 

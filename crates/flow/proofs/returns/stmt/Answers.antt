@@ -3,7 +3,7 @@ use Prim.Native.Nat.{◌-◌}
 use lib.Dec.{eqb}
 use Rattle.tree.specs.Forest.{forest_of}
 use Rattle.rules.specs.Flow.{returns_walk}
-use Rattle.answer.proofs.Flat.{Going, going, going_on, gone_end}
+use Rattle.answer.proofs.Flat.{Going, going, going_on, going_end}
 use Rattle.flow.specs.Returns.{Tidy}
 use Rattle.flow.proofs.ReturnsLaws.{tidy_later, tidy_first, walk_next, walk_past}
 use Rattle.flow.proofs.returns.stmt.Goals as goal
@@ -29,4 +29,4 @@ shape_of-out c = c.loop-i.invariant.1.long
 
 pub returns : goal.returns
 returns c =
-    gone_end c.loop-i.invariant.1 (walk_past (λ v. eqb v c.args.fail) (λ v. eqb v c.args.none) c.args.t.now c.loop-i.i c.args.n c.loop-i-test.false)
+    going_end c.loop-i.invariant.1 (walk_past (λ v. eqb v c.args.fail) (λ v. eqb v c.args.none) c.args.t.now c.loop-i.i c.args.n c.loop-i-test.false)

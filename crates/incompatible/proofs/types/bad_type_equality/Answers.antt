@@ -6,7 +6,7 @@ use Rattle.tree.specs.code.Part.{Part}
 use Rattle.tree.proofs.Laws.{later, first, sized}
 use Rattle.rules.specs.Visit.{each}
 use Rattle.rules.specs.Incompatible.{check_at}
-use Rattle.answer.proofs.Flat.{Going, going, going_on, gone_end}
+use Rattle.answer.proofs.Flat.{Going, going, going_on, going_end}
 use Rattle.incompatible.specs.Five.{is, five}
 use Rattle.incompatible.proofs.Checks.{each_next, each_past}
 use Rattle.incompatible.proofs.types.bad_type_equality.Reads as reads
@@ -37,4 +37,4 @@ shape_of-out c = c.loop-i.invariant.1.long
 
 pub returns : goal.returns
 returns c =
-    gone_end c.loop-i.invariant.1 (each_past (check_at (is c.args.names.call) (five c.args.names)) c.args.t.now c.loop-i.i c.args.n c.loop-i-test.false)
+    going_end c.loop-i.invariant.1 (each_past (check_at (is c.args.names.call) (five c.args.names)) c.args.t.now c.loop-i.i c.args.n c.loop-i-test.false)

@@ -6,7 +6,7 @@ use Rattle.tree.specs.code.Part.{Part}
 use Rattle.tree.proofs.Laws.{later, first, sized}
 use Rattle.rules.specs.Visit.{each}
 use Rattle.rules.specs.Incompatible.{check_at}
-use Rattle.answer.proofs.Flat.{Going, going, going_on, gone_end}
+use Rattle.answer.proofs.Flat.{Going, going, going_on, going_end}
 use Rattle.incompatible.specs.Five.{is, five}
 use Rattle.incompatible.proofs.Checks.{each_next, each_past}
 use Rattle.incompatible.proofs.types.bad_type_equality.Reads as reads

@@ -7,10 +7,10 @@ use lib.ListN.{length, drop}
 use Rattle.tree.specs.Bytes.{size_at}
 use Rattle.tree.specs.Forest.{forest_of}
 use Rattle.tree.specs.code.Part.{Part}
-use Rattle.tree.proofs.Laws.{sized, ended, rest, whole_at, whole_kids}
+use Rattle.tree.proofs.Laws.{sized, ended, rest}
 use Rattle.meeting.specs.Asked.{asked, plan, run, at}
 use Rattle.meeting.specs.Words.{meets}
-use Rattle.meeting.proofs.Walking.{few, below_none, below_self, below_other, row_next, row_done, step_wanted, step_unwanted, visit_next, visit_done}
+use Rattle.meeting.proofs.Walking.{whole_at, under, few, below_none, below_self, below_other, row_next, row_done, step_wanted, step_unwanted, visit_next, visit_done}
 use Rattle.meeting.proofs.walk.below.Reads as below
 use Rattle.meeting.proofs.walk.node.Reads as node
 use Rattle.meeting.proofs.walk.step.Reads as step
@@ -42,7 +42,7 @@ pub below-overflow_add-c-2 : goal.below-overflow_add-c-2
 below-overflow_add-c-2 t c = omega (arith, few c.requires, c.size_at.ensures.1)
 
 pub below-visit-requires : goal.below-visit-requires
-below-visit-requires t c = rw c.size_at.ensures.0 (omega (arith, c.decreases, c.requires.some), whole_kids c.requires)
+below-visit-requires t c = rw c.size_at.ensures.0 (omega (arith, c.decreases, c.requires.some), under c.requires)
 
 pub below-returns : goal.below-returns
 below-returns t c =

@@ -6,10 +6,10 @@ use lib.ListN.{length, drop}
 use Rattle.tree.specs.Bytes.{size_at}
 use Rattle.tree.specs.Forest.{forest_of}
 use Rattle.tree.specs.code.Part.{Part}
-use Rattle.tree.proofs.Laws.{sized, ended, rest, whole_at, whole_kids}
+use Rattle.tree.proofs.Laws.{sized, ended, rest}
 use Rattle.meeting.specs.Asked.{asked, plan, run, at}
 use Rattle.meeting.specs.Words.{meets}
-use Rattle.meeting.proofs.Walking.{few, below_none, below_self, below_other, row_next, row_done, step_wanted, step_unwanted, visit_next, visit_done}
+use Rattle.meeting.proofs.Walking.{whole_at, under, few, below_none, below_self, below_other, row_next, row_done, step_wanted, step_unwanted, visit_next, visit_done}
 use Rattle.meeting.proofs.walk.below.Reads as below
 use Rattle.meeting.proofs.walk.node.Reads as node
 use Rattle.meeting.proofs.walk.step.Reads as step
