@@ -25,6 +25,11 @@ BY_HAND = {
 }
 # two lemmas of one name
 BY_FILE = {("node-of", "tree"): "node_bytes", ("node-of", "rules"): "node_bytes", ("node-of", "names"): "node_in_part", ("level-of", "log"): "level_of", ("level-of", "sarif_log"): "level_of"}
+# words that port.py spelled after a type of the kit
+MISSPELT = {
+    "in_List": "in_list", "no_Abort": "no_abort", "pick_Any_set": "pick_any_set", "pick_Use": "pick_use", "no_Use": "no_use",
+    "no_Any_set": "no_any_set", "no_Inner": "no_inner", "pick_Inner": "pick_inner", "IsRefused-as": "refused_as",
+}
 SKIP = re.compile(r'--[^\n]*|"(?:[^"\\\n]|\\.)*"')
 WORD = re.compile(r"[^\s(){}\[\],;.@«»`]+")
 DEF = re.compile(r"^\s*(?:(?:abbrev|unfoldable|pub|data|record|mutual|\|)\s+)*([^\s(){}\[\],;.:=→]+)\s*(?::(?!=)|[({].*:|where)")
@@ -92,6 +97,8 @@ def turn(text, names, crate, walk):
     def part(t):
         def sub(m):
             w = m[0]
+            if w in MISSPELT:
+                return MISSPELT[w]
             if w not in names or w in kit:
                 return w
             if m.start() and t[m.start() - 1] == ".":

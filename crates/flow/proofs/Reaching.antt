@@ -15,7 +15,7 @@ use Rattle.tree.proofs.Find.{child_ge, child_part}
 use Rattle.rules.specs.Record.{Rec, listed, plainly}
 use Rattle.rules.specs.Visit.{look}
 use Rattle.rules.specs.Order.{fail_called}
-use Rattle.rules.specs.Flow.{Reached, in_List, one_by_one, only, both, on_through, stopping, after_stop, reached, reached_part}
+use Rattle.rules.specs.Flow.{Reached, in_list, one_by_one, only, both, on_through, stopping, after_stop, reached, reached_part}
 use Rattle.answer.specs.declared.Sheet.{Sheet}
 use Rattle.answer.specs.Page.{Page, write, writes, page}
 use Rattle.answer.proofs.Laws.{writes_none}
@@ -66,7 +66,7 @@ module _ (F : ℕ → Bool) (t : List ℕ) (i : ℕ) where
   unfolding node_head
   at_kind m e = ap (λ (x : ℕ). reached_part F x under (λ v. reached F v under)) e
 
-  pub here_list : {e : ℕ} → e ≡ i + size_at t i → kind_at t i ≡ 8 → reached F in_List (forest_of t (i + 1) e) ≡ reach_here
+  pub here_list : {e : ℕ} → e ≡ i + size_at t i → kind_at t i ≡ 8 → reached F in_list (forest_of t (i + 1) e) ≡ reach_here
   here_list a k = rw a (sym (at_kind 8 k))
 
   pub here_sides : {e : ℕ} → e ≡ i + size_at t i → kind_at t i ≡ 10
@@ -109,18 +109,18 @@ module _ (F : ℕ → Bool) (t : List ℕ) (i : ℕ) where
 
 module _ (F : ℕ → Bool) where
   pub list_next : {t : List ℕ} {j e : ℕ} → Part t j e → j < e
-      → reached F in_List (forest_of t j e)
+      → reached F in_list (forest_of t j e)
       ≡ record {
         stops = (left F (reach_here F t j).stops (forest_of t (j + size_at t j) e)).stops;
         recs = (reach_here F t j).recs ++ (left F (reach_here F t j).stops (forest_of t (j + size_at t j) e)).recs;
       }
-  list_next {t} {j} {e} p lt = ap (reached F in_List) (forest_node p lt) ∙ go (reach_here F t j).stops
+  list_next {t} {j} {e} p lt = ap (reached F in_list) (forest_node p lt) ∙ go (reach_here F t j).stops
     where
       go : (b : Bool)
           → ◌≡◌ {A = Reached}
           (elim b [
             | true ↦ record { stops = true; recs = (reach_here F t j).recs ++ after_stop (forest_of t (j + size_at t j) e) }
-            | false ↦ (let b = reached F in_List (forest_of t (j + size_at t j) e) in record { stops = b.stops; recs = (reach_here F t j).recs ++ b.recs })
+            | false ↦ (let b = reached F in_list (forest_of t (j + size_at t j) e) in record { stops = b.stops; recs = (reach_here F t j).recs ++ b.recs })
           ])
           (record {
             stops = (left F b (forest_of t (j + size_at t j) e)).stops;
@@ -160,18 +160,18 @@ module _ (F : ℕ → Bool) where
   each_done t i j e h g = record { written = going_end g (each_past t j e h); stops = each_stops (forest_of t i e) }
 
   pub list_done : (t : List ℕ) (i j e : ℕ) {o₀ o o' : List ℕ} {s₀ s s' : Sheet} (b : Bool)
-      → Going o₀ s₀ (reached F in_List (forest_of t i e)).recs o s (left F b (forest_of t j e)).recs
-      → (left F b (forest_of t j e)).stops ≡ (reached F in_List (forest_of t i e)).stops
+      → Going o₀ s₀ (reached F in_list (forest_of t i e)).recs o s (left F b (forest_of t j e)).recs
+      → (left F b (forest_of t j e)).stops ≡ (reached F in_list (forest_of t i e)).stops
       → (not b && ltb j e) ≡ false
       → page o' s' ≡ writes (page o s) (listed b (after_stop (forest_of t j e)) [])
-      → Walked o₀ o' s₀ s' b (reached F in_List (forest_of t i e))
+      → Walked o₀ o' s₀ s' b (reached F in_list (forest_of t i e))
   list_done t i j e true g q h w =
       record { written = w ∙ rw (append-nil (after_stop (forest_of t j e))) g.yet; stops = q }
   list_done t i j e {o₀} {o} {o'} {s₀} {s} {s'} false g q h w =
       let z = forest_none t j e (ltb-false j e h) in
       record {
-        written = w ∙ writes_none (page o s) ∙ going_end g (ap (λ (f : Forest). (reached F in_List f).recs) z);
-        stops = sym (ap (λ (f : Forest). (reached F in_List f).stops) z) ∙ q;
+        written = w ∙ writes_none (page o s) ∙ going_end g (ap (λ (f : Forest). (reached F in_list f).recs) z);
+        stops = sym (ap (λ (f : Forest). (reached F in_list f).stops) z) ∙ q;
       }
 
   -- ---- the first of a role

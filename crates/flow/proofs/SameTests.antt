@@ -10,7 +10,7 @@ use Rattle.tree.proofs.Fields.{Small, small_node}
 use Rattle.rules.specs.Record.{Rec, listed}
 use Rattle.rules.specs.Visit.{look, has, spot_at, last_of}
 use Rattle.rules.specs.Order.{fail_named, fail_called}
-use Rattle.rules.specs.Flow.{the_body, returns, first_valued, type_reason, reason, ends_part, ends, missing, bare_recs, check_for, check, returns_walk, Reached, Course, in_List, one_by_one, only, both, on_through, stopping, after_stop, reached_part, reached, redundant_walk, below_root, loads, effect_walk, flow}
+use Rattle.rules.specs.Flow.{the_body, returns, first_valued, type_reason, reason, ends_part, ends, missing, bare_recs, check_for, check, returns_walk, Reached, Course, in_list, one_by_one, only, both, on_through, stopping, after_stop, reached_part, reached, redundant_walk, below_root, loads, effect_walk, flow}
 use Rattle.rules.specs.Record.{or_else}
 
 module _ (p q : ℕ → Bool) (agree : (v : ℕ) → v < 65536 → p v ≡ q v) where
@@ -37,7 +37,7 @@ module _ (p q : ℕ → Bool) (agree : (v : ℕ) → v < 65536 → p v ≡ q v) 
 
   reach_part_same : (z : ℕ) (k : Forest) (down : Course → Reached) → fail_called p k ≡ fail_called q k → reached_part p z k down ≡ reached_part q z k down
   reach_part_same z k down e =
-      ap (λ (b : Bool). look z ((1, stopping true) ∷ (2, stopping true) ∷ (4, stopping true) ∷ (5, stopping b) ∷ (8, down in_List)
+      ap (λ (b : Bool). look z ((1, stopping true) ∷ (2, stopping true) ∷ (4, stopping true) ∷ (5, stopping b) ∷ (8, down in_list)
       ∷ (10, both (down (only 1)) (down (only 2))) ∷ []) (on_through (down one_by_one))) e
 
   reach_same : (f : Forest) → Small f → (m : Course) → reached p m f ≡ reached q m f
@@ -50,11 +50,11 @@ module _ (p q : ℕ → Bool) (agree : (v : ℕ) → v < 65536 → p v ≡ q v) 
           reach_part_same h.kind k (λ x. reached p x k) (called_same k u) ∙ ap (reached_part q h.kind k) down
 
       go : (m : Course) → ((x : Course) → reached p x k ≡ reached q x k) → ((x : Course) → reached p x s ≡ reached q x s) → reached p m (node h k s) ≡ reached q m (node h k s)
-      go in_List f g =
+      go in_list f g =
           ap₂ (λ (x y : Reached). elim x.stops [
             | true ↦ record { stops = true; recs = x.recs ++ after_stop s }
             | false ↦ record { stops = y.stops; recs = x.recs ++ y.recs }
-          ]) (here f) (g in_List)
+          ]) (here f) (g in_list)
       go one_by_one f g = ap₂ (λ (x y : Reached). record { stops = false; recs = x.recs ++ y.recs }) (here f) (g one_by_one)
       go (only r) f g = ap₂ (λ (x y : Reached). elim (eqb r h.role) [ true ↦ x | false ↦ y ]) (here f) (g (only r))
 

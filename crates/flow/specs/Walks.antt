@@ -5,7 +5,7 @@ use Rattle.tree.specs.Forest.{Head, Forest}
 use Rattle.tree.specs.code.Find.{child_of}
 use Rattle.rules.specs.Record.{Rec}
 use Rattle.rules.specs.Visit.{look}
-use Rattle.rules.specs.Flow.{Effect, some_effect, none_effect, by_children, effects, effect_part, Loads, loads_part, Reached, after_stop, in_List, reached}
+use Rattle.rules.specs.Flow.{Effect, some_effect, none_effect, by_children, effects, effect_part, Loads, loads_part, Reached, after_stop, in_list, reached}
 use Rattle.answer.specs.declared.Sheet.{Sheet}
 use Rattle.answer.specs.Page.{writes, page}
 
@@ -60,7 +60,7 @@ load_at strings may h k = loads_part (is_text strings) h.kind may h k (λ v. rec
 -- what is left of a list of statements, after one that stops or not
 abbrev pub left : (ℕ → Bool) → Bool → Forest → Reached
 left is_fail true f = record { stops = true; recs = after_stop f }
-left is_fail false f = reached is_fail in_List f
+left is_fail false f = reached is_fail in_list f
 
 -- what a walk writes and hands back
 pub record Walked (o o' : List ℕ) (s s' : Sheet) (b : Bool) (w : Reached) : Type 0 where

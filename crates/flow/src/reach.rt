@@ -4,7 +4,7 @@ ghost use Rattle.tree.specs.Bytes.{size_at};
 ghost use Rattle.tree.specs.Forest.{node_head, forest_of};
 ghost use Rattle.tree.specs.code.Part.{Part, Subtree};
 ghost use Rattle.rules.specs.Record.{listed};
-ghost use Rattle.rules.specs.Flow.{reached, reached_part, after_stop, in_List as in-a-list, one_by_one as each-one, only, both as both_of};
+ghost use Rattle.rules.specs.Flow.{reached, reached_part, after_stop, in_list as in-a-list, one_by_one as each-one, only, both as both_of};
 ghost use Rattle.answer.specs.Page.{writes, page};
 ghost use Rattle.flow.specs.Walks.{is_name, Walked};
 

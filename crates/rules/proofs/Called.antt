@@ -32,7 +32,7 @@ use Rattle.rules.specs.declared.Refusal.TheVariants.{Tree, WorkRoom, AnswerRoom}
 use Rattle.rules.specs.declared.Outcome.TheVariants.{Listed}
 use Rattle.rules.specs.declared.Answer.{Answer}
 use Rattle.rules.proofs.Words.{length_words}
-use Rattle.rules.proofs.Answered.{short_or_not, unfit, fit, work_short, work_enough, room_short, room_enough, all_passed, room_passed, refused as IsRefused-as, listed, filled}
+use Rattle.rules.proofs.Answered.{short_or_not, unfit, fit, work_short, work_enough, room_short, room_enough, all_passed, room_passed, refused as refused_as, listed, filled}
 use Rattle.rules.proofs.Whole.{file_demand3}
 
 -- ---- records read back
@@ -81,7 +81,7 @@ module _ (rs : List Rec) (t work room tally : List ℕ) (a : Answer) (room' work
       → Refuses rs t why work room a room' work'
   unfolding done_with_work answer_by room_by
   refuses why n e =
-      let d : Gives (record { answer = IsRefused-as why; room = room; work = work_by (some why) work }) a room' work' = gives ∙ rw e in
+      let d : Gives (record { answer = refused_as why; room = room; work = work_by (some why) work }) a room' work' = gives ∙ rw e in
       record {
         given = e;
         outcome = ap (λ (x : DoneWithWork). x.answer.outcome) d;

@@ -21,7 +21,7 @@ use Rattle.rules.specs.Names.{names, met_in, told, names_list}
 use Rattle.rules.specs.Record.{Rec, listed, valued_at, plainly, named_at}
 use Rattle.rules.specs.Visit.{has, look, last_of, head_at, spot_at, each as each-node, kind_among}
 use Rattle.rules.specs.Order.{Bind, one, several, nothing, bind_of, fail_name}
-use Rattle.rules.specs.Flow.{flow, Loads, loads_part, loads, effect, effect_part, effect_walk, tail_part, tail, redundant_part, redundant_walk, below_root, Reached, Course, in_List, one_by_one, only, after_stop, reached_part, reached, Return, everything, the_body, the_rest, returns_part, returns, ends, missing, missing_expression, bare_recs, check_for, check, reason, returns_walk, none_name, flow_list}
+use Rattle.rules.specs.Flow.{flow, Loads, loads_part, loads, effect, effect_part, effect_walk, tail_part, tail, redundant_part, redundant_walk, below_root, Reached, Course, in_list, one_by_one, only, after_stop, reached_part, reached, Return, everything, the_body, the_rest, returns_part, returns, ends, missing, missing_expression, bare_recs, check_for, check, reason, returns_walk, none_name, flow_list}
 use Rattle.rules.specs.declared.Allowance.{Allowance}
 use Rattle.rules.specs.Incompatible.{check_at, type_check, Deed, defines, repeats, deed_part, defined_names, self_set, Top, assigning, modifying, defining, loading, holding, aside, tops, top_part, deeds, First, first_of, was_free, defined, may_repeat, repeated, incompatible, allowance, type_name, five_types, spells_one, incompatible_list}
 use Rattle.rules.specs.Dubious.{seen_with, keys, clash, against, doubles, dict_at, idle_at, dubious, dubious_list}
@@ -129,7 +129,7 @@ module _ (is_fail : ℕ → Bool) where
   many m f = length (reached is_fail m f).recs
 
   record Reaches (f : Forest) : Type 0 where
-    in_order : many in_List f ≤ nodes f
+    in_order : many in_list f ≤ nodes f
     by_one : many one_by_one f ≤ nodes f
     single : (r : ℕ) → many (only r) f ≤ nodes f
     double : (r q : ℕ) → T (not (eqb r q)) → many (only r) f + many (only q) f ≤ nodes f
@@ -158,7 +158,7 @@ module _ (is_fail : ℕ → Bool) where
       let a = reached_part is_fail h.kind k (λ v. reached is_fail v k) in
       let p : length a.recs ≤ nodes k = part_reach h.kind k (reaches k) in
       record {
-        in_order = (let e : many in_List (node h k s) ≤ nodes k + nodes s = list_step a (reached is_fail in_List s) s (nodes k) p
+        in_order = (let e : many in_list (node h k s) ≤ nodes k + nodes s = list_step a (reached is_fail in_list s) s (nodes k) p
             c.in_order a.stops in omega (arith, e));
         by_one = (let e = length-append a.recs (reached is_fail one_by_one s).recs in let d = c.by_one in omega (arith, e, d, p));
         single = λ r. (let e : many (only r) (node h k s) ≤ nodes k + nodes s = one_step (eqb r h.role) a (reached is_fail (only r) s)
@@ -169,7 +169,7 @@ module _ (is_fail : ℕ → Bool) where
       }
 
   pub reach_few : (m : Course) (f : Forest) → length (reached is_fail m f).recs ≤ nodes f
-  reach_few in_List f = (reaches f).in_order
+  reach_few in_list f = (reaches f).in_order
   reach_few one_by_one f = (reaches f).by_one
   reach_few (only r) f = (reaches f).single r
 

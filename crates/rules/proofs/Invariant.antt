@@ -5,7 +5,7 @@ use mathlib.Core.Bool.{Bool, true, false, ◌||◌, cond}
 use lib.Dec.{eqb, leb, T}
 use Rattle.tree.specs.Forest.{Spot}
 use Rattle.rules.specs.Order.{Cmd}
-use Rattle.rules.specs.Names.{back_to, Abort, no_Abort, loop_abort, function_abort, aborts, smaller, unloop, Standing, absent, maybe, definitely, sure, spots, stand_if, join, join_sure, has_standing, State, Search, Found, nowhere, surely, perhaps, stands, search_out, use_out, use_as, branch_of, round, rounds, same_state, walk, same}
+use Rattle.rules.specs.Names.{back_to, Abort, no_abort, loop_abort, function_abort, aborts, smaller, unloop, Standing, absent, maybe, definitely, sure, spots, stand_if, join, join_sure, has_standing, State, Search, Found, nowhere, surely, perhaps, stands, search_out, use_out, use_as, branch_of, round, rounds, same_state, walk, same}
 use Rattle.rules.specs.Runs.{Held, End, through, Run, skips, next, cut, uses, sets, breaking, returns, left, right, done, round as goes, continues, out, away, apart}
 use Rattle.rules.proofs.Bools.{or_right}
 use Rattle.rules.proofs.Keep.{scope_same}
@@ -33,7 +33,7 @@ grows apart x t = t
 
 -- THE INVARIANT, of a state that a run comes to with the names of σ set
 pub record Ok (σ : Held) (st : State) : Type 0 where
-  pub alive : st.here.abort ≡ no_Abort
+  pub alive : st.here.abort ≡ no_abort
   pub known : (x : ℕ) → T (sure (st.here.standing x)) → T (σ x)
 
 pub ok_within : {σ τ : Held} {st : State} → Within σ τ → Ok σ st → Ok τ st
@@ -80,16 +80,16 @@ join_two true x y t = t
 join_two false true y t = t
 join_two false false y t = absurd t
 
-sure_one : (b : Abort) (x y : Standing) → T (sure (join no_Abort b x y)) → T (sure x)
+sure_one : (b : Abort) (x y : Standing) → T (sure (join no_abort b x y)) → T (sure x)
 sure_one b x y t = join_one (aborts b) (sure x) (sure y)
     (sure_joined (has_standing x || has_standing y) (join_sure false (aborts b) (sure x) (sure y)) (λ s. spots x s || spots y s) t)
 
-sure_two : (a : Abort) (x y : Standing) → T (sure (join a no_Abort x y)) → T (sure y)
+sure_two : (a : Abort) (x y : Standing) → T (sure (join a no_abort x y)) → T (sure y)
 sure_two a x y t = join_two (aborts a) (sure x) (sure y)
     (sure_joined (has_standing x || has_standing y) (join_sure (aborts a) false (sure x) (sure y)) (λ s. spots x s || spots y s) t)
 
-smaller_none : (a : Abort) → smaller a no_Abort ≡ no_Abort
-smaller_none no_Abort = refl
+smaller_none : (a : Abort) → smaller a no_abort ≡ no_abort
+smaller_none no_abort = refl
 smaller_none loop_abort = refl
 smaller_none function_abort = refl
 
@@ -98,7 +98,7 @@ ok_back st one o = record { alive = o.alive; known = o.known }
 
 ok_left : {τ : Held} (f g : State → State) (st : State) → Ok τ (f st) → Ok τ (branch_of f g st)
 ok_left f g st o = record {
-  alive = subst (λ (a : Abort). smaller a (g (back_to st (f st))).here.abort ≡ no_Abort) (sym o.alive) refl;
+  alive = subst (λ (a : Abort). smaller a (g (back_to st (f st))).here.abort ≡ no_abort) (sym o.alive) refl;
   known = λ x t. o.known x (sure_one (g (back_to st (f st))).here.abort ((f st).here.standing x) ((g (back_to st (f st))).here.standing x)
       (subst (λ (a : Abort). T (sure (join a (g (back_to st (f st))).here.abort ((f st).here.standing x)
       ((g (back_to st (f st))).here.standing x)))) o.alive t));
@@ -106,7 +106,7 @@ ok_left f g st o = record {
 
 ok_right : {τ : Held} (f g : State → State) (st : State) → Ok τ (g (back_to st (f st))) → Ok τ (branch_of f g st)
 ok_right f g st o = record {
-  alive = subst (λ (a : Abort). smaller (f st).here.abort a ≡ no_Abort) (sym o.alive) (smaller_none (f st).here.abort);
+  alive = subst (λ (a : Abort). smaller (f st).here.abort a ≡ no_abort) (sym o.alive) (smaller_none (f st).here.abort);
   known = λ x t. o.known x (sure_two (f st).here.abort ((f st).here.standing x) ((g (back_to st (f st))).here.standing x)
       (subst (λ (a : Abort). T (sure (join (f st).here.abort a ((f st).here.standing x) ((g (back_to st (f st))).here.standing x))))
       o.alive t));

@@ -124,15 +124,15 @@ Use s (branch a b) = Use s a ⊎ Use s b
 Use s (loop c) = Use s c
 Use s (scope c) = ⊥
 
-pick_Use : (s : Spot) (b : Bool) (X Y : Cmd) (n m : ℕ) → (Use s X → 1 ≤ n) → (Use s Y → 1 ≤ m) → Use s (picked b X Y) → 1 ≤ only b n + m
-pick_Use s false X Y n m f g p = let q : 1 ≤ m = g p in omega arith
-pick_Use s true X Y n m f g (inl p) = let q : 1 ≤ n = f p in omega arith
-pick_Use s true X Y n m f g (inr p) = let q : 1 ≤ m = g p in omega arith
+pick_use : (s : Spot) (b : Bool) (X Y : Cmd) (n m : ℕ) → (Use s X → 1 ≤ n) → (Use s Y → 1 ≤ m) → Use s (picked b X Y) → 1 ≤ only b n + m
+pick_use s false X Y n m f g p = let q : 1 ≤ m = g p in omega arith
+pick_use s true X Y n m f g (inl p) = let q : 1 ≤ n = f p in omega arith
+pick_use s true X Y n m f g (inr p) = let q : 1 ≤ m = g p in omega arith
 
-no_Use : (s : Spot) (b : Bool) (X Y : Cmd) → (Use s X → ⊥) → (Use s Y → ⊥) → Use s (picked b X Y) → ⊥
-no_Use s false X Y f g p = g p
-no_Use s true X Y f g (inl p) = f p
-no_Use s true X Y f g (inr p) = g p
+no_use : (s : Spot) (b : Bool) (X Y : Cmd) → (Use s X → ⊥) → (Use s Y → ⊥) → Use s (picked b X Y) → ⊥
+no_use s false X Y f g p = g p
+no_use s true X Y f g (inl p) = f p
+no_use s true X Y f g (inr p) = g p
 
 abbrev pub AnySet : Spot → Cmd → Type 0
 AnySet s skip = ⊥
@@ -144,16 +144,16 @@ AnySet s (branch a b) = AnySet s a ⊎ AnySet s b
 AnySet s (loop c) = AnySet s c
 AnySet s (scope c) = AnySet s c
 
-pick_Any_set : (s : Spot) (b : Bool) (X Y : Cmd) (n m : ℕ) → (AnySet s X → 1 ≤ n) → (AnySet s Y → 1 ≤ m) → AnySet s (picked b X Y)
+pick_any_set : (s : Spot) (b : Bool) (X Y : Cmd) (n m : ℕ) → (AnySet s X → 1 ≤ n) → (AnySet s Y → 1 ≤ m) → AnySet s (picked b X Y)
     → 1 ≤ only b n + m
-pick_Any_set s false X Y n m f g p = let q : 1 ≤ m = g p in omega arith
-pick_Any_set s true X Y n m f g (inl p) = let q : 1 ≤ n = f p in omega arith
-pick_Any_set s true X Y n m f g (inr p) = let q : 1 ≤ m = g p in omega arith
+pick_any_set s false X Y n m f g p = let q : 1 ≤ m = g p in omega arith
+pick_any_set s true X Y n m f g (inl p) = let q : 1 ≤ n = f p in omega arith
+pick_any_set s true X Y n m f g (inr p) = let q : 1 ≤ m = g p in omega arith
 
-no_Any_set : (s : Spot) (b : Bool) (X Y : Cmd) → (AnySet s X → ⊥) → (AnySet s Y → ⊥) → AnySet s (picked b X Y) → ⊥
-no_Any_set s false X Y f g p = g p
-no_Any_set s true X Y f g (inl p) = f p
-no_Any_set s true X Y f g (inr p) = g p
+no_any_set : (s : Spot) (b : Bool) (X Y : Cmd) → (AnySet s X → ⊥) → (AnySet s Y → ⊥) → AnySet s (picked b X Y) → ⊥
+no_any_set s false X Y f g p = g p
+no_any_set s true X Y f g (inl p) = f p
+no_any_set s true X Y f g (inr p) = g p
 
 abbrev pub Inner : Spot → Cmd → Type 0
 Inner s skip = ⊥
@@ -165,16 +165,16 @@ Inner s (branch a b) = Inner s a ⊎ Inner s b
 Inner s (loop c) = Inner s c
 Inner s (scope c) = AnySet s c
 
-pick_Inner : (s : Spot) (b : Bool) (X Y : Cmd) (n m : ℕ) → (Inner s X → 1 ≤ n) → (Inner s Y → 1 ≤ m) → Inner s (picked b X Y)
+pick_inner : (s : Spot) (b : Bool) (X Y : Cmd) (n m : ℕ) → (Inner s X → 1 ≤ n) → (Inner s Y → 1 ≤ m) → Inner s (picked b X Y)
     → 1 ≤ only b n + m
-pick_Inner s false X Y n m f g p = let q : 1 ≤ m = g p in omega arith
-pick_Inner s true X Y n m f g (inl p) = let q : 1 ≤ n = f p in omega arith
-pick_Inner s true X Y n m f g (inr p) = let q : 1 ≤ m = g p in omega arith
+pick_inner s false X Y n m f g p = let q : 1 ≤ m = g p in omega arith
+pick_inner s true X Y n m f g (inl p) = let q : 1 ≤ n = f p in omega arith
+pick_inner s true X Y n m f g (inr p) = let q : 1 ≤ m = g p in omega arith
 
-no_Inner : (s : Spot) (b : Bool) (X Y : Cmd) → (Inner s X → ⊥) → (Inner s Y → ⊥) → Inner s (picked b X Y) → ⊥
-no_Inner s false X Y f g p = g p
-no_Inner s true X Y f g (inl p) = f p
-no_Inner s true X Y f g (inr p) = g p
+no_inner : (s : Spot) (b : Bool) (X Y : Cmd) → (Inner s X → ⊥) → (Inner s Y → ⊥) → Inner s (picked b X Y) → ⊥
+no_inner s false X Y f g p = g p
+no_inner s true X Y f g (inl p) = f p
+no_inner s true X Y f g (inr p) = g p
 
 hit_one : (b : Bool) → T b → 1 ≤ hit b
 hit_one true t = omega arith
@@ -200,7 +200,7 @@ le_wrap i b n p = omega arith
 
 binds_tally : (s : Spot) (ρ : ℕ) (f : Forest) → AnySet s (binds ρ f) → 1 ≤ tally s ρ f
 binds_tally s ρ leaf p = absurd p
-binds_tally s ρ (node h k r) p = pick_Any_set s (eqb ρ h.role) (bind_part (bind_of h) h (λ v. binds v k)) (binds ρ r) (me s h
+binds_tally s ρ (node h k r) p = pick_any_set s (eqb ρ h.role) (bind_part (bind_of h) h (λ v. binds v k)) (binds ρ r) (me s h
     + count s k) (tally s ρ r)
     (λ q. le_wrap (ident_hit (form_of h) s h) (bind_hit (bind_of h) s h) (count s k)
     (bind_anyset s (bind_of h) h (λ v. binds v k) (count s k) (λ z. let a = binds_tally s 0 k z in let b = tally_le s 0 k in
@@ -217,7 +217,7 @@ bind_no_use s nothing h down f p = p
 
 pub binds_no_use : (s : Spot) (ρ : ℕ) (f : Forest) → Use s (binds ρ f) → ⊥
 binds_no_use s ρ leaf p = p
-binds_no_use s ρ (node h k r) p = no_Use s (eqb ρ h.role) (bind_part (bind_of h) h (λ v. binds v k)) (binds ρ r)
+binds_no_use s ρ (node h k r) p = no_use s (eqb ρ h.role) (bind_part (bind_of h) h (λ v. binds v k)) (binds ρ r)
     (bind_no_use s (bind_of h) h (λ v. binds v k) (binds_no_use s 0 k)) (binds_no_use s ρ r) p
 
 bind_no_inner : (s : Spot) (z : Bind) (h : Head) (down : ℕ → Cmd) → (Inner s (down 0) → ⊥) → Inner s (bind_part z h down) → ⊥
@@ -227,7 +227,7 @@ bind_no_inner s nothing h down f p = p
 
 pub binds_no_inner : (s : Spot) (ρ : ℕ) (f : Forest) → Inner s (binds ρ f) → ⊥
 binds_no_inner s ρ leaf p = p
-binds_no_inner s ρ (node h k r) p = no_Inner s (eqb ρ h.role) (bind_part (bind_of h) h (λ v. binds v k)) (binds ρ r)
+binds_no_inner s ρ (node h k r) p = no_inner s (eqb ρ h.role) (bind_part (bind_of h) h (λ v. binds v k)) (binds ρ r)
     (bind_no_inner s (bind_of h) h (λ v. binds v k) (binds_no_inner s 0 k)) (binds_no_inner s ρ r) p
 
 use_no_set : (s : Spot) (z : Bind) (h : Head) (down : ℕ → Cmd) → (AnySet s (down 0) → ⊥) → AnySet s (use_part z h down) → ⊥
@@ -237,7 +237,7 @@ use_no_set s nothing h down f p = p
 
 uses_no_set : (s : Spot) (ρ : ℕ) (f : Forest) → AnySet s (uses ρ f) → ⊥
 uses_no_set s ρ leaf p = p
-uses_no_set s ρ (node h k r) p = no_Any_set s (eqb ρ h.role) (use_part (bind_of h) h (λ v. uses v k)) (uses ρ r)
+uses_no_set s ρ (node h k r) p = no_any_set s (eqb ρ h.role) (use_part (bind_of h) h (λ v. uses v k)) (uses ρ r)
     (use_no_set s (bind_of h) h (λ v. uses v k) (uses_no_set s 0 k)) (uses_no_set s ρ r) p
 
 use_no_inner : (s : Spot) (z : Bind) (h : Head) (down : ℕ → Cmd) → (Inner s (down 0) → ⊥) → Inner s (use_part z h down) → ⊥
@@ -247,7 +247,7 @@ use_no_inner s nothing h down f p = p
 
 uses_no_inner : (s : Spot) (ρ : ℕ) (f : Forest) → Inner s (uses ρ f) → ⊥
 uses_no_inner s ρ leaf p = p
-uses_no_inner s ρ (node h k r) p = no_Inner s (eqb ρ h.role) (use_part (bind_of h) h (λ v. uses v k)) (uses ρ r)
+uses_no_inner s ρ (node h k r) p = no_inner s (eqb ρ h.role) (use_part (bind_of h) h (λ v. uses v k)) (uses ρ r)
     (use_no_inner s (bind_of h) h (λ v. uses v k) (uses_no_inner s 0 k)) (uses_no_inner s ρ r) p
 
 -- a target's names as uses
@@ -430,10 +430,10 @@ module _ (is_fail : ℕ → Bool) where
   pub sets_count : (s : Spot) (w : Want) (f : Forest) → AnySet s (takes is_fail w f) → 1 ≤ count s f
   sets_count s w leaf p = absurd p
   sets_count s (of_role ρ) (node h k r) p = let a =
-      pick_Any_set s (eqb ρ h.role) (part is_fail (form_of h) h k (λ v. takes is_fail v k)) (takes is_fail (of_role ρ) r) (count s k)
+      pick_any_set s (eqb ρ h.role) (part is_fail (form_of h) h k (λ v. takes is_fail v k)) (takes is_fail (of_role ρ) r) (count s k)
       (count s r) (part_set s (form_of h) h k (λ v. sets_count s v k)) (sets_count s (of_role ρ) r) p in
       let b = only_le (eqb ρ h.role) (count s k) in omega arith
-  sets_count s every (node h k r) p = let a = pick_Any_set s true (part is_fail (form_of h) h k (λ v. takes is_fail v k))
+  sets_count s every (node h k r) p = let a = pick_any_set s true (part is_fail (form_of h) h k (λ v. takes is_fail v k))
       (takes is_fail every r) (count s k) (count s r) (part_set s (form_of h) h k (λ v. sets_count s v k)) (sets_count s every r) p in
       omega arith
   sets_count s first_over (node h k r) p = go (eqb 0 h.role) p (sets_count s (of_role 4) k) (sets_count s first_over r)
@@ -457,7 +457,7 @@ module _ (is_fail : ℕ → Bool) where
       go true (inl p) f g e = let q : 1 ≤ count s k = f p in omega arith
       go true (inr (inl p)) f g e = let q : 1 ≤ count s k = binds_count s 5 k p in omega arith
       go true (inr (inr p)) f g e = let q : 1 ≤ count s r = g p in omega arith
-  sets_count s clauses (node h k r) p = let a = pick_Any_set s (eqb 0 h.role)
+  sets_count s clauses (node h k r) p = let a = pick_any_set s (eqb 0 h.role)
       (takes is_fail (of_role 4) k ⨟ takes is_fail (of_role 5) k ⨟ binds 5 k) (takes is_fail clauses r) (count s k) (count s r)
       (go (sets_count s (of_role 4) k) (sets_count s (of_role 5) k)) (sets_count s clauses r) p in
       let b = only_le (eqb 0 h.role) (count s k) in omega arith
@@ -470,7 +470,7 @@ module _ (is_fail : ℕ → Bool) where
 
   pub sets_tally : (s : Spot) (ρ : ℕ) (f : Forest) → AnySet s (takes is_fail (of_role ρ) f) → 1 ≤ tally s ρ f
   sets_tally s ρ leaf p = absurd p
-  sets_tally s ρ (node h k r) p = pick_Any_set s (eqb ρ h.role) (part is_fail (form_of h) h k (λ v. takes is_fail v k))
+  sets_tally s ρ (node h k r) p = pick_any_set s (eqb ρ h.role) (part is_fail (form_of h) h k (λ v. takes is_fail v k))
       (takes is_fail (of_role ρ) r) (me s h + count s k) (tally s ρ r)
       (λ q. let a = part_set s (form_of h) h k (λ v. sets_count s v k) q in omega arith) (sets_tally s ρ r) p
 
@@ -702,7 +702,7 @@ module _ (is_fail : ℕ → Bool) where
 
   pub use_tally : (s : Spot) (ρ : ℕ) (f : Forest) → Use s (takes is_fail (of_role ρ) f) → 1 ≤ tally s ρ f
   use_tally s ρ leaf p = absurd p
-  use_tally s ρ (node h k r) p = pick_Use s (eqb ρ h.role) (part is_fail (form_of h) h k (λ v. takes is_fail v k))
+  use_tally s ρ (node h k r) p = pick_use s (eqb ρ h.role) (part is_fail (form_of h) h k (λ v. takes is_fail v k))
       (takes is_fail (of_role ρ) r) (me s h + count s k) (tally s ρ r)
       (λ q. let a = part_use s (form_of h) h k (use_own s k) q in let b = own_inn s (inside (form_of h)) k in
       omega arith) (use_tally s ρ r) p

@@ -97,7 +97,7 @@ pub record Reached : Type 0 where
 
 -- statements taken as a list's members, each by itself, or the one of a role
 pub data Course : Type 0 where
-  in_List one_by_one : Course
+  in_list one_by_one : Course
   only : ℕ → Course
 
 abbrev pub both : Reached → Reached → Reached
@@ -118,16 +118,16 @@ module _ (is_fail : ℕ → Bool) where
   -- "Break, continue, return and a fail statement abort; so does a list once a member does, and an if-else whose sides both do."
   abbrev pub reached_part : ℕ → Forest → (Course → Reached) → Reached
   reached_part n k down =
-      look n ((1, stopping true) ∷ (2, stopping true) ∷ (4, stopping true) ∷ (5, stopping (fail_called is_fail k)) ∷ (8, down in_List)
+      look n ((1, stopping true) ∷ (2, stopping true) ∷ (4, stopping true) ∷ (5, stopping (fail_called is_fail k)) ∷ (8, down in_list)
       ∷ (10, both (down (only 1)) (down (only 2))) ∷ []) (on_through (down one_by_one))
 
   abbrev pub reached : Course → Forest → Reached
   reached m leaf = stopping false
   reached m (node h k s) =
       elim m [
-        | in_List ↦ (let a = reached_part h.kind k (λ v. reached v k) in elim a.stops [
+        | in_list ↦ (let a = reached_part h.kind k (λ v. reached v k) in elim a.stops [
           | true ↦ record { stops = true; recs = a.recs ++ after_stop s }
-          | false ↦ (let b = reached in_List s in record { stops = b.stops; recs = a.recs ++ b.recs })
+          | false ↦ (let b = reached in_list s in record { stops = b.stops; recs = a.recs ++ b.recs })
         ])
         | one_by_one ↦ (let a = reached_part h.kind k (λ v. reached v k) in record { stops = false; recs = a.recs ++ (reached one_by_one s).recs })
         | only r ↦ elim (eqb r h.role) [ true ↦ reached_part h.kind k (λ v. reached v k) | false ↦ reached (only r) s ]

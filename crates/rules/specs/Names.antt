@@ -9,16 +9,16 @@ use Rattle.rules.specs.Order.{Stop, Sort, Cmd, breaks, bare, valued, fails, skip
 
 -- "an abort: none, loop or function, ordered so"
 pub data Abort : Type 0 where
-  no_Abort loop_abort function_abort : Abort
+  no_abort loop_abort function_abort : Abort
 
 abbrev pub aborts : Abort → Bool
-aborts no_Abort = false
+aborts no_abort = false
 aborts loop_abort = true
 aborts function_abort = true
 
 abbrev pub smaller : Abort → Abort → Abort
-smaller no_Abort b = no_Abort
-smaller loop_abort no_Abort = no_Abort
+smaller no_abort b = no_abort
+smaller loop_abort no_abort = no_abort
 smaller loop_abort loop_abort = loop_abort
 smaller loop_abort function_abort = loop_abort
 smaller function_abort b = b
@@ -69,7 +69,7 @@ pub record Scope : Type 0 where
 
 abbrev pub fresh : Scope
 fresh =
-    record { cant = []; unbound = []; used = λ s. false; settings = []; standing = λ x. absent; abort = no_Abort }
+    record { cant = []; unbound = []; used = λ s. false; settings = []; standing = λ x. absent; abort = no_abort }
 
 pub record Warning : Type 0 where
   pub code : ℕ
@@ -211,8 +211,8 @@ branch_of f g st = let one = f st in joined one (g (back_to st one))
 
 -- "after each, a loop abort becomes none"
 abbrev pub unloop : Abort → Abort
-unloop no_Abort = no_Abort
-unloop loop_abort = no_Abort
+unloop no_abort = no_abort
+unloop loop_abort = no_abort
 unloop function_abort = function_abort
 
 abbrev pub unlooped : State → State

@@ -17,7 +17,7 @@ use Rattle.scope.specs.declared.Scope.{Scope}
 use Rattle.rules.specs.Outcome.{work_words}
 
 abbrev pub abort_of : Abort → rules.Abort
-abort_of Runs = rules.no_Abort
+abort_of Runs = rules.no_abort
 abort_of Loop = rules.loop_abort
 abort_of Function = rules.function_abort
 

@@ -7,7 +7,7 @@ use lib.Dec.{eqb}
 use Rattle.tree.specs.Forest.{Spot, Head, Forest, Forest.none as leaf, node}
 use Rattle.rules.specs.Record.{Rec, no_number, plainly, or_else, Each}
 use Rattle.rules.specs.Visit.{has, head_at, spot_at, last_of}
-use Rattle.rules.specs.Flow.{Return, Which, everything, the_body, the_rest, wanted, returns_part, returns, first_valued, type_reason, reason, ends, missing, missing_expression, bare_recs, check_for, check, returns_walk, Reached, Course, in_List, one_by_one, only, after_stop, reached_part, reached, tail_part, tail, redundant_part, redundant_walk, below_root, Loads, loads_part, loads, effect, effect_part, effect_walk, flow}
+use Rattle.rules.specs.Flow.{Return, Which, everything, the_body, the_rest, wanted, returns_part, returns, first_valued, type_reason, reason, ends, missing, missing_expression, bare_recs, check_for, check, returns_walk, Reached, Course, in_list, one_by_one, only, after_stop, reached_part, reached, tail_part, tail, redundant_part, redundant_walk, below_root, Loads, loads_part, loads, effect, effect_part, effect_walk, flow}
 use Rattle.rules.proofs.Each.{IfSome, either, either_if, join, listed_each}
 use Rattle.spans.proofs.Made.{Throughout, Late, one, two, three, place, each_late}
 
@@ -82,19 +82,19 @@ module _ (P : Head → Type 0) where
         → Reports (reached_part is_fail z k (λ v. reached is_fail v k))
     part_reports z k c =
         either Reports (eqb z 1) _ _ tt (either Reports (eqb z 2) _ _ tt (either Reports (eqb z 4) _ _ tt (either Reports (eqb z 5) _ _ tt
-        (either Reports (eqb z 8) _ _ (c in_List) (either Reports (eqb z 10) _ _
+        (either Reports (eqb z 8) _ _ (c in_list) (either Reports (eqb z 10) _ _
         (join (Late P) (reached is_fail (only 1) k).recs (reached is_fail (only 2) k).recs (c (only 1)) (c (only 2))) (c one_by_one))))))
 
     reach_late : (f : Forest) → Throughout P f → (m : Course) → Reports (reached is_fail m f)
     reach_late leaf o m = tt
-    reach_late (node h k s) o in_List =
+    reach_late (node h k s) o in_list =
         let a = reached_part is_fail h.kind k (λ v. reached is_fail v k) in
-        let b = reached is_fail in_List s in
+        let b = reached is_fail in_list s in
         let p : Reports a = part_reports h.kind k (reach_late k o.1.0) in
         either Reports a.stops (record { stops = true; recs = a.recs ++ after_stop s })
         (record { stops = b.stops; recs = a.recs ++ b.recs })
         (join (Late P) a.recs (after_stop s) p (after_late s o.1.1))
-        (join (Late P) a.recs b.recs p (reach_late s o.1.1 in_List))
+        (join (Late P) a.recs b.recs p (reach_late s o.1.1 in_list))
     reach_late (node h k s) o one_by_one =
         join (Late P) (reached_part is_fail h.kind k (λ v. reached is_fail v k)).recs (reached is_fail one_by_one s).recs
         (part_reports h.kind k (reach_late k o.1.0)) (reach_late s o.1.1 one_by_one)

@@ -5,7 +5,7 @@ use Rattle.std.proofs.Math.Option.{Option, none, some}
 use Rattle.tree.specs.Forest.{Spot, Forest, Forest.none as leaf, node}
 use Rattle.rules.specs.Order.{Sort, Cmd, skip, ◌⨟◌, use_of, set_of, stop, branch, loop, scope}
 use Rattle.rules.specs.Record.{keep}
-use Rattle.rules.specs.Names.{Abort, no_Abort, aborts, smaller, stop_abort, unloop, same, has_name, Setting, Warning, warn, warn_if, warn_all, join_sure, unused, is_assign, Found, nowhere, surely, perhaps}
+use Rattle.rules.specs.Names.{Abort, no_abort, aborts, smaller, stop_abort, unloop, same, has_name, Setting, Warning, warn, warn_if, warn_all, join_sure, unused, is_assign, Found, nowhere, surely, perhaps}
 
 abbrev pub put {ℓ} : {A : Type ℓ} → Bool → A → List A → List A
 put true a l = l
@@ -61,7 +61,7 @@ pub record House : Type 0 where
   pub out : List Warning
 
 abbrev pub empty_room : Chamber
-empty_room = record { cant = []; unbound = []; entries = []; abort = no_Abort }
+empty_room = record { cant = []; unbound = []; entries = []; abort = no_abort }
 
 abbrev pub setting_of : Entry → Setting
 setting_of e = record { sort = e.sort; spot = e.spot }

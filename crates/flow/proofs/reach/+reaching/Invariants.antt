@@ -7,13 +7,13 @@ use Rattle.tree.specs.Bytes.{size_at}
 use Rattle.tree.specs.Forest.{forest_of}
 use Rattle.tree.specs.code.Part.{Part}
 use Rattle.tree.proofs.Laws.{rest, sized, ended}
-use Rattle.rules.specs.Flow.{reached, in_List as in-a-list, one_by_one as each-one}
+use Rattle.rules.specs.Flow.{reached, in_list as in-a-list, one_by_one as each-one}
 use Rattle.answer.proofs.Flat.{Going, going, going_on}
 use Rattle.flow.specs.Walks.{is_name, left}
 use Rattle.flow.proofs.Steps.{whole_at, below}
 use Rattle.flow.proofs.Reaching.{walked_as, walked_still, walked_two, goes_in, goes_free, here_list, here_sides, here_fails, here_stops, here_each, list_again, each_next, each_done, list_done, side_there, side_absent, side_whole, side_low, side_ends}
 use Rattle.flow.proofs.reach.each.Reads as each
-use Rattle.flow.proofs.reach.in_list.Reads as in_List
+use Rattle.flow.proofs.reach.in_list.Reads as in_list
 use Rattle.flow.proofs.reach.reachable.Reads as reachable
 use Rattle.flow.proofs.reach.side.Reads as side
 use Rattle.flow.proofs.reach.sides.Reads as sides
