@@ -121,6 +121,18 @@ def comment(t, names, crate):
     return WORD.sub(lambda m: spelled(m[0], crate) if m[0] in names and (re.search(r"[a-z][A-Z]", m[0])) else m[0], t)
 
 
+def aliases(text):
+    """The names that a file's use lines give by `as`, in snake case too, where the file has no such word."""
+    words = set(WORD.findall(SKIP.sub("", text)))
+    turned = {}
+    for line in re.findall(r"(?m)^[ \t]*(?:pub )?(?:ghost )?use .*$", text):
+        for a in re.findall(r" as ([A-Za-z][\w']*(?:-[\w']+)+)", line):
+            b = a[0].lower() + a[1:].replace("-", "_") if not line.rstrip(";").endswith("as " + a) or "{" in line else a.replace("-", "_")
+            if b not in words:
+                turned[a] = b
+    return WORD.sub(lambda m: turned.get(m[0], m[0]), text)
+
+
 class Names(set):
     labels = frozenset()
 
@@ -151,6 +163,7 @@ def main():
             if p.endswith(".rt"):
                 new = re.sub(rf"(?m)^(\s*(?:pub\s+)?use ){a}::", rf"\1{b}::", new)
                 new = re.sub(rf"(?<![\w:]){a}::(?=[a-z_]+\()", f"{b}::", new)
+        new = aliases(new)
         if new != old:
             open(p, "w", encoding="utf-8").write(new)
     for a, b in CRATES.items():

@@ -4,7 +4,7 @@ ghost use Rattle.tree.specs.Bytes.{size_at};
 ghost use Rattle.tree.specs.Forest.{node_head, forest_of};
 ghost use Rattle.tree.specs.code.Part.{Part, Subtree};
 ghost use Rattle.rules.specs.Record.{listed};
-ghost use Rattle.rules.specs.Flow.{reached, reached_part, after_stop, in_list as in-a-list, one_by_one as each-one, only, both as both_of};
+ghost use Rattle.rules.specs.Flow.{reached, reached_part, after_stop, in_list as in_a_list, one_by_one as each_one, only, both as both_of};
 ghost use Rattle.answer.specs.Page.{writes, page};
 ghost use Rattle.flow.specs.Walks.{is_name, Walked};
 
@@ -88,7 +88,7 @@ fn unreachable(t: &[u8], aborts: bool, j: usize, e: usize, out: &mut [u32], s: S
 #[cycle(reaching)]
 fn in_list(t: &[u8], fail: usize, i: usize, e: usize, out: &mut [u32], s: Sheet) -> Reached
     requires { Part t.now i e × (i ≤ e) }
-    ensures { Walked out.old out.new s result.sheet result.aborts (reached (is_name fail) in-a-list (forest_of t.now i e)) }
+    ensures { Walked out.old out.new s result.sheet result.aborts (reached (is_name fail) in_a_list (forest_of t.now i e)) }
 {
     let mut sheet = s;
     let mut aborts = false;
@@ -109,7 +109,7 @@ fn in_list(t: &[u8], fail: usize, i: usize, e: usize, out: &mut [u32], s: Sheet)
 #[cycle(reaching)]
 fn each(t: &[u8], fail: usize, i: usize, e: usize, out: &mut [u32], s: Sheet) -> Reached
     requires { Part t.now i e × (i ≤ e) }
-    ensures { Walked out.old out.new s result.sheet result.aborts (reached (is_name fail) each-one (forest_of t.now i e)) }
+    ensures { Walked out.old out.new s result.sheet result.aborts (reached (is_name fail) each_one (forest_of t.now i e)) }
 {
     let mut sheet = s;
     let mut j = i;

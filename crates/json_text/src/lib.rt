@@ -4,15 +4,15 @@
 
 ghost use Rattle.std.specs.Prelude.{◌≡◌, ◌∷◌, ◌++◌, ◌+◌, ◌*◌, ◌≤◌, ◌<◌, length, drop, get_or};
 ghost use Rattle.page.specs.Page.{Wrote};
-ghost use Rattle.json_text.specs.Text.{quoted as quoted-text};
-ghost use Rattle.json_text.specs.Utf8.{more as more_bytes, low as least, high as greatest, second as second_fits, tail as tail-fits, whole as whole-char, front as front_char};
-ghost use Rattle.json_text.specs.Escape.{must as must-escape, hex_digit as digit-of, hex as hex-of, six as six-of, ascii_byte as ascii-of, unit as unit-of, escape as escape-from, hexes as hexes-of, first as first_of, left as left-of};
+ghost use Rattle.json_text.specs.Text.{quoted as quoted_text};
+ghost use Rattle.json_text.specs.Utf8.{more as more_bytes, low as least, high as greatest, second as second_fits, tail as tail_fits, whole as whole_char, front as front_char};
+ghost use Rattle.json_text.specs.Escape.{must as must_escape, hex_digit as digit_of, hex as hex_of, six as six_of, ascii_byte as ascii_of, unit as unit_of, escape as escape_from, hexes as hexes_of, first as first_of, left as left_of};
 
 use page::{put, raw};
 
 fn hex_digit(d: u8) -> u8
     requires { d < 16 }
-    ensures { result ≡ digit-of d }
+    ensures { result ≡ digit_of d }
 {
     if d < 10 {
         return 48 + d;
@@ -22,7 +22,7 @@ fn hex_digit(d: u8) -> u8
 
 // A byte in two digits.
 fn hex(out: &mut [u8], n: usize, b: u8) -> usize
-    ensures { Wrote out.old n out.new result 2 (λ rest. hex-of b ++ rest) }
+    ensures { Wrote out.old n out.new result 2 (λ rest. hex_of b ++ rest) }
 {
     let at = put(out, n, hex_digit(b / 16 % 16));
     put(out, at, hex_digit(b % 16))
@@ -30,7 +30,7 @@ fn hex(out: &mut [u8], n: usize, b: u8) -> usize
 
 // Bytes in hexadecimal.
 pub fn hexes(out: &mut [u8], n: usize, s: &[u8]) -> usize
-    ensures { Wrote out.old n out.new result (2 * length s.now) (λ rest. hexes-of s.now ++ rest) }
+    ensures { Wrote out.old n out.new result (2 * length s.now) (λ rest. hexes_of s.now ++ rest) }
 {
     let mut at = n;
     let mut i = 0;
@@ -95,7 +95,7 @@ fn second(a: u8, b: u8) -> bool
 }
 
 fn tail(b: u8) -> bool
-    ensures { result ≡ tail-fits b }
+    ensures { result ≡ tail_fits b }
 {
     if b < 128 {
         return false;
@@ -104,7 +104,7 @@ fn tail(b: u8) -> bool
 }
 
 fn whole(k: usize, a: u8, b: u8, c: u8, d: u8) -> usize
-    ensures { result ≡ whole-char k a b c d }
+    ensures { result ≡ whole_char k a b c d }
 {
     if k == 0 {
         return 1;
@@ -152,7 +152,7 @@ fn front(s: &[u8], i: usize) -> usize
 
 // The characters that RFC 8259 has escaped.
 fn must(b: u8) -> bool
-    ensures { result ≡ must-escape b }
+    ensures { result ≡ must_escape b }
 {
     if b <= 31 {
         return true;
@@ -164,14 +164,14 @@ fn must(b: u8) -> bool
 }
 
 fn six(out: &mut [u8], n: usize, b: u8) -> usize
-    ensures { Wrote out.old n out.new result 6 (λ rest. six-of b ++ rest) }
+    ensures { Wrote out.old n out.new result 6 (λ rest. six_of b ++ rest) }
 {
     let at = raw(out, n, b"\\u00");
     hex(out, at, b)
 }
 
 fn ascii_byte(out: &mut [u8], n: usize, b: u8) -> usize
-    ensures { Wrote out.old n out.new result 6 (λ rest. ascii-of b ++ rest) }
+    ensures { Wrote out.old n out.new result 6 (λ rest. ascii_of b ++ rest) }
 {
     if must(b) {
         return six(out, n, b);
@@ -181,7 +181,7 @@ fn ascii_byte(out: &mut [u8], n: usize, b: u8) -> usize
 
 // What stands for byte b, with which a character of k bytes begins.
 fn unit(out: &mut [u8], n: usize, k: usize, b: u8) -> usize
-    ensures { Wrote out.old n out.new result 6 (λ rest. unit-of k b ++ rest) }
+    ensures { Wrote out.old n out.new result 6 (λ rest. unit_of k b ++ rest) }
 {
     if k == 0 {
         return raw(out, n, b"\xef\xbf\xbd");
@@ -206,7 +206,7 @@ fn step(out: &mut [u8], n: usize, s: &[u8], i: usize, left: usize) -> usize
 // How many there are after it.
 fn left_after(s: &[u8], i: usize, left: usize) -> usize
     requires { i < length s.now }
-    ensures { result ≡ left-of left (drop i s.now) }
+    ensures { result ≡ left_of left (drop i s.now) }
 {
     if 0 < left {
         return left - 1;
@@ -220,7 +220,7 @@ fn left_after(s: &[u8], i: usize, left: usize) -> usize
 
 // A string's text, without the marks around it: of any bytes.
 pub fn escaped(out: &mut [u8], n: usize, s: &[u8]) -> usize
-    ensures { Wrote out.old n out.new result (6 * length s.now) (λ rest. escape-from 0 s.now ++ rest) }
+    ensures { Wrote out.old n out.new result (6 * length s.now) (λ rest. escape_from 0 s.now ++ rest) }
 {
     let mut at = n;
     let mut left = 0;
@@ -235,7 +235,7 @@ pub fn escaped(out: &mut [u8], n: usize, s: &[u8]) -> usize
 
 // A string's text with the marks around it.
 pub fn string(out: &mut [u8], n: usize, s: &[u8]) -> usize
-    ensures { Wrote out.old n out.new result (2 + 6 * length s.now) (quoted-text s.now) }
+    ensures { Wrote out.old n out.new result (2 + 6 * length s.now) (quoted_text s.now) }
 {
     let a = put(out, n, 34);
     let b = escaped(out, a, s);

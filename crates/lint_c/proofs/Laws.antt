@@ -17,8 +17,8 @@ use Rattle.rules.specs.declared.Answer.{Answer}
 use Rattle.rules.proofs.Answered.{short_or_not}
 use Rattle.codes.specs.Named.{named}
 use Rattle.codes.specs.declared.ShortName.{ShortName}
-use Rattle.sarif.specs.Calls.{Done as Log-done, sarif_call}
-use Rattle.sarif.specs.declared.Answer.{Answer as Log-answer}
+use Rattle.sarif.specs.Calls.{Done as log_done, sarif_call}
+use Rattle.sarif.specs.declared.Answer.{Answer as log_answer}
 use Rattle.lint_c.specs.Face.{over, laid, number_of, report_of, called, as_listed, log_report_of, sarif_called}
 
 -- one word more
@@ -103,11 +103,11 @@ told mode t work room report a work' room' report' n e f g =
     λ i. record { number = k i; work = (e i).work; room = (e i).room; report = l i }
 
 -- ... and so is a log's report
-pub logged : (mode : Mode) (t work room output report : List ℕ) (a : Log-answer) (work' room' output' report' : List ℕ) (n : ℕ)
+pub logged : (mode : Mode) (t work room output report : List ℕ) (a : log_answer) (work' room' output' report' : List ℕ) (n : ℕ)
     → record { answer = a; work = work'; room = room'; output = output' } ≡ sarif_call mode t work room output
     → n ≡ number_of (as_listed a.outcome) → report' ≡ laid (log_report_of a) report
     → record { number = n; work = work'; room = room'; output = output'; report = report' } ≡ sarif_called mode t work room output report
 logged mode t work room output report a work' room' output' report' n e f g =
-    let k = f ∙ ap (λ (d : Log-done). number_of (as_listed d.answer.outcome)) e in
-    let l = g ∙ ap (λ (d : Log-done). laid (log_report_of d.answer) report) e in
+    let k = f ∙ ap (λ (d : log_done). number_of (as_listed d.answer.outcome)) e in
+    let l = g ∙ ap (λ (d : log_done). laid (log_report_of d.answer) report) e in
     λ i. record { number = k i; work = (e i).work; room = (e i).room; output = (e i).output; report = l i }

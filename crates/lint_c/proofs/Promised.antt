@@ -9,7 +9,7 @@ use Rattle.lint_c.proofs.yudronkha_short_name.Reads as short_name
 use Rattle.lint_c.proofs.yudronkha_lint.Reads as ordinary
 use Rattle.lint_c.proofs.yudronkha_lint_strict.Reads as strict
 use Rattle.lint_c.proofs.yudronkha_sarif.Reads as sarif
-use Rattle.lint_c.proofs.yudronkha_sarif_strict.Reads as sarif-strict
+use Rattle.lint_c.proofs.yudronkha_sarif_strict.Reads as sarif_strict
 
 pub promised_version : (κs : _) (a : _) (r : _) (s : _) → version.Post κs a r s → r ≡ library_version
 promised_version κs a r s p = p
@@ -36,7 +36,7 @@ pub promised_sarif : (κs : _) (a : _) (r : _) (s : _) → sarif.Post κs a r s
     (sarif_called Ordinary a.0.now a.1.0.now a.1.1.0.now a.1.1.1.0.now a.1.1.1.1.0.now)
 promised_sarif κs a r s p = p
 
-pub promised_sarif_strict : (κs : _) (a : _) (r : _) (s : _) → sarif-strict.Post κs a r s
+pub promised_sarif_strict : (κs : _) (a : _) (r : _) (s : _) → sarif_strict.Post κs a r s
     → ◌≡◌ {A = SarifCalled} (record { number = r; work = s.1.0.now; room = s.1.1.0.now; output = s.1.1.1.0.now; report = s.1.1.1.1.0.now })
     (sarif_called Strict a.0.now a.1.0.now a.1.1.0.now a.1.1.1.0.now a.1.1.1.1.0.now)
 promised_sarif_strict κs a r s p = p

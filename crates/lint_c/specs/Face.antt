@@ -11,9 +11,9 @@ use Rattle.codes.specs.Named.{severity_of}
 use Rattle.codes.specs.declared.EvalSeverity.{EvalSeverity}
 use Rattle.codes.specs.declared.EvalSeverity.TheVariants.{Disabled, Warning}
 use Rattle.sarif.specs.Calls.{sarif_call}
-use Rattle.sarif.specs.declared.Outcome.{Outcome as Log-outcome}
-use Rattle.sarif.specs.declared.Outcome.TheVariants.{Logged, Refused as Not-logged}
-use Rattle.sarif.specs.declared.Answer.{Answer as Log-answer}
+use Rattle.sarif.specs.declared.Outcome.{Outcome as log_outcome}
+use Rattle.sarif.specs.declared.Outcome.TheVariants.{Logged, Refused as not_logged}
+use Rattle.sarif.specs.declared.Answer.{Answer as log_answer}
 
 -- The library's version: major * 10000 + minor * 100 + patch, here 3.1.0
 abbrev pub library_version : ℕ
@@ -81,17 +81,17 @@ called mode t work room report = let done = lint_call mode t work room in record
 -- ---- the list as a SARIF log
 
 -- a log is answered as its list is
-abbrev pub as_listed : Log-outcome → Outcome
+abbrev pub as_listed : log_outcome → Outcome
 as_listed (Logged n) = Listed n.records
-as_listed (Not-logged why) = Refused why
+as_listed (not_logged why) = Refused why
 
 -- the log's bytes; a refusal writes none
-abbrev pub bytes_of : Log-outcome → ℕ
+abbrev pub bytes_of : log_outcome → ℕ
 bytes_of (Logged n) = n.bytes
-bytes_of (Not-logged why) = 0
+bytes_of (not_logged why) = 0
 
 -- the list's report, and after the last count the log's bytes
-abbrev pub log_report_of : Log-answer → List ℕ
+abbrev pub log_report_of : log_answer → List ℕ
 log_report_of a =
     report_of (record { outcome = as_listed a.outcome; tally = a.tally }) ++ (bytes_of a.outcome ∷ [])
 

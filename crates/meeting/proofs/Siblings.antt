@@ -7,7 +7,7 @@ use lib.Dec.{eqb}
 use Rattle.tree.specs.Bytes.{pick}
 use Rattle.tree.specs.Forest.{Head, Forest, none, node}
 use Rattle.rules.specs.Names.{met}
-use Rattle.rules.specs.Order.{Cmd, skip, ◌⨟◌, stop, fails, Form, form_of, Bind, one, several, nothing, bind_of, Want, of_role, every, first_over, first_bound, clauses, picked, bind_part, binds, use_part, uses, part, step as order-step, takes}
+use Rattle.rules.specs.Order.{Cmd, skip, ◌⨟◌, stop, fails, Form, form_of, Bind, one, several, nothing, bind_of, Want, of_role, every, first_over, first_bound, clauses, picked, bind_part, binds, use_part, uses, part, step as order_step, takes}
 use Rattle.meeting.specs.Asked.{Ask, visits, names, no_ask, never, ask_of, asked_as, asked, wanted, after, form_row, bind_row, row, below, run, step}
 
 both_met : (b : Bool) (a c d e : Cmd) → met a ≡ met c → met d ≡ met e → met (picked b a d) ≡ met (picked b c e)
@@ -83,7 +83,7 @@ module _ (p : ℕ → Bool) (h : Head) (k s : Forest) (down on : Want → Cmd) (
   unfolding asked_as asked ask_of below run
   clause_met = simp (d, append-nil)
 
-  step_met : (v : Want) → met (order-step p v h k down on) ≡ step (visits v) h k ++ asked_as (after (visits v) (eqb 0 h.role)) s
+  step_met : (v : Want) → met (order_step p v h k down on) ≡ step (visits v) h k ++ asked_as (after (visits v) (eqb 0 h.role)) s
   unfolding step wanted row after
   step_met (of_role r) =
       rw (kept (visits (of_role r)) (eqb 0 h.role) refl)

@@ -19,7 +19,7 @@ use Rattle.rules.proofs.Out.{names_few}
 use Rattle.rules.specs.Joined.{lint_list}
 use Rattle.rules.specs.Names.{names, met_in, told, names_list}
 use Rattle.rules.specs.Record.{Rec, listed, valued_at, plainly, named_at}
-use Rattle.rules.specs.Visit.{has, look, last_of, head_at, spot_at, each as each-node, kind_among}
+use Rattle.rules.specs.Visit.{has, look, last_of, head_at, spot_at, each as each_node, kind_among}
 use Rattle.rules.specs.Order.{Bind, one, several, nothing, bind_of, fail_name}
 use Rattle.rules.specs.Flow.{flow, Loads, loads_part, loads, effect, effect_part, effect_walk, tail_part, tail, redundant_part, redundant_walk, below_root, Reached, Course, in_list, one_by_one, only, after_stop, reached_part, reached, Return, everything, the_body, the_rest, returns_part, returns, ends, missing, missing_expression, bare_recs, check_for, check, reason, returns_walk, none_name, flow_list}
 use Rattle.rules.specs.declared.Allowance.{Allowance}
@@ -302,14 +302,14 @@ flow_few is_fail is_none is-string f =
 
 -- ---- incompatible
 
-each_few : (g : Head → Forest → List Rec) → ((h : Head) (k : Forest) → length (g h k) ≤ 1) → (f : Forest) → length (each-node g f) ≤ nodes f
+each_few : (g : Head → Forest → List Rec) → ((h : Head) (k : Forest) → length (g h k) ≤ 1) → (f : Forest) → length (each_node g f) ≤ nodes f
 each_few g c leaf = omega arith
 each_few g c (node h k s) =
     let a = c h k in
     let p = each_few g c k in
     let q = each_few g c s in
-    let e = length-append (g h k) (each-node g k ++ each-node g s) in
-    let d = length-append (each-node g k) (each-node g s) in
+    let e = length-append (g h k) (each_node g k ++ each_node g s) in
+    let d = length-append (each_node g k) (each_node g s) in
     omega arith
 
 bind_most : (z : Bind) (s : Head) (k : Forest) → length (defined_names 0 k) ≤ nodes k → length (deed_part z s (λ v. defined_names v k)) ≤ suc (nodes k)
@@ -373,7 +373,7 @@ incompatible_few allowed is-type names-type f =
     (valued_at 14 h (spot_at 2 k).value)) f in
     let b = judge_few allowed (deeds f) [] [] in
     let c = deeds_few f in
-    let e = length-append (each-node (check_at is-type names-type) f) (repeated allowed (deeds f) [] []) in
+    let e = length-append (each_node (check_at is-type names-type) f) (repeated allowed (deeds f) [] []) in
     omega (arith, a, b, c, e)
 
 -- ---- dubious
@@ -397,15 +397,15 @@ module _ (test : ℕ → ℕ → Likeness) where
       omega arith
 
   -- the keys among these, and the records of the dicts in and below them
-  dicts_most : (f : Forest) → length (each-node (dict_at test) f) + length (keys f) ≤ nodes f
+  dicts_most : (f : Forest) → length (each_node (dict_at test) f) + length (keys f) ≤ nodes f
   dicts_most leaf = omega arith
   dicts_most (node h k s) =
       let a = listed_most (eqb 29 h.kind) (doubles test [] (keys k)) [] in
       let b = doubles_few [] (keys k) in
       let c = dicts_most k in
       let d = dicts_most s in
-      let e = length-append (dict_at test h k) (each-node (dict_at test) k ++ each-node (dict_at test) s) in
-      let g = length-append (each-node (dict_at test) k) (each-node (dict_at test) s) in
+      let e = length-append (dict_at test h k) (each_node (dict_at test) k ++ each_node (dict_at test) s) in
+      let g = length-append (each_node (dict_at test) k) (each_node (dict_at test) s) in
       let i = listed_most (eqb 8 h.role && (eqb 20 h.kind || eqb 21 h.kind)) (h ∷ []) (keys s) in
       omega (arith, a, b, c, d, e, g, i)
 
@@ -414,7 +414,7 @@ module _ (test : ℕ → ℕ → Likeness) where
   dubious_few f =
       let a = dicts_most f in
       let b = each_few idle_at (λ h k. listed_one (eqb 5 h.kind && eqb 20 (kind_among 4 k)) (named_at 17 (head_at 4 k))) f in
-      let e = length-append (each-node (dict_at test) f) (each-node idle_at f) in
+      let e = length-append (each_node (dict_at test) f) (each_node idle_at f) in
       omega (arith, a, b, e)
 
 -- ---- of a file's bytes

@@ -13,7 +13,7 @@ use Rattle.rules.specs.Record.{Each}
 use Rattle.rules.specs.Order.{Form, form_of, Bind, one, several, nothing, bind_of, Cmd, skip, ◌⨟◌, use_of, set_of, stop, branch, loop, scope, of_role, binds, takes, body}
 use Rattle.rules.specs.Names.{same, State, back_to, joined, unlooped, enter, leave, branch_of, same_state, round, rounds, walk, names, met, first_met}
 use Rattle.rules.specs.code.Marks.{names_tour}
-use Rattle.rules.specs.Runs.{Node, at as node_at, below as node_below, beside as node-beside, Body, of_module, of_def, Held, Reach, here, first, second, left, right, now, later, continued}
+use Rattle.rules.specs.Runs.{Node, at as node_at, below as node_below, beside as node_beside, Body, of_module, of_def, Held, Reach, here, first, second, left, right, now, later, continued}
 use Rattle.rules.specs.Premises.{names_apart}
 use Rattle.rules.specs.Meeting.{is_met, MeetsFirst, Noted, with_state, branch_noted, same_noted, round_noted, rounds_noted, noting}
 use Rattle.rules.proofs.Bools.{or_left, or_right}
@@ -304,7 +304,7 @@ reach_met P (continued q r) p = reach_met P r p
 under_node : {g h : Head} {k f : Forest} → Node h k f → Holder g k → Holder g f
 under_node node_at n = below n
 under_node (node_below m) n = below (under_node m n)
-under_node (node-beside m) n = beside (under_node m n)
+under_node (node_beside m) n = beside (under_node m n)
 
 -- a use that a run of a body reaches is a node of the tree that holds a name
 pub reached_holder : (is_fail : ℕ → Bool) (f : Forest) {b : Cmd} → Body is_fail f b → {g : Head} {σ : Held} → Reach g b σ → Holder g f

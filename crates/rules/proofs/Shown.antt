@@ -9,7 +9,7 @@ use mathlib.Core.Logic.{inl, inr}
 use mathlib.Core.Option.{none}
 use native.Mathlib.Omega.{arith}
 use lib.Dec.{eqb, T}
-use Rattle.tree.specs.Search.{first as first-of-places}
+use Rattle.tree.specs.Search.{first as first_of_places}
 use Rattle.tree.specs.Bytes.{u16_at, u32_at, version_of, node_count, value_count, global_count, kind_at, role_at, size_at, begin_at, end_at, value_at, last_at}
 use Rattle.tree.specs.Forest.{Head, Forest, Forest.none as leaf, node, node_spot, node_head, forest_in, forest_of, tree_of}
 use Rattle.tree.specs.Values.{offset, formed, precedes}
@@ -26,7 +26,7 @@ use Rattle.rules.specs.Record.{Rec, Span, no_span, named_at, also_at, plainly}
 use Rattle.rules.specs.Runs.{at, below, beside, of_module, of_def, own, Held, nobody, hold, End, through, by, Run, skips, next, cut, uses, sets, breaking, returns, left, right, done, continues, out, apart, round, away, Reach, here, first, second, now, later, continued}
 use Rattle.rules.specs.Premises.{Premises, names_apart, jumps_in_loops}
 use Rattle.rules.specs.Letter.{Told, Demand3}
-use Rattle.rules.specs.Known.{looped as looped-file}
+use Rattle.rules.specs.Known.{looped as looped_file}
 use Rattle.rules.proofs.Demand3.{demand3, demand3_more}
 use Rattle.rules.proofs.Whole.{the_demand}
 
@@ -412,8 +412,8 @@ swapped_list = refl
 
 -- A FILE'S BYTES: 01's for i in xs with print(a), a = 1 inside (Known). It is judged valid, its tree meets the premises, a run reaches
 -- the use of a in the first round, and so the use is told; under 6, as the list shows.
-pub bytes_valid : judged looped-file ≡ Valid (record { version = 1; nodes = 12; values = 5; names = 4; globals = 65535; rest = 228 })
-unfolding judged checks facts_of first-of-places u16_at u32_at version_of node_count value_count global_count kind_at role_at size_at begin_at end_at value_at last_at node_spot node_head forest_in forest_of tree_of offset formed precedes wrong_value wrong_global parent_in parent_of limit_of known wrong_node depth_in depth_of too_deep class_of slot_of all_stand many all_filled in_pairs for_first in_order kids_fit root_ok wrong_children
+pub bytes_valid : judged looped_file ≡ Valid (record { version = 1; nodes = 12; values = 5; names = 4; globals = 65535; rest = 228 })
+unfolding judged checks facts_of first_of_places u16_at u32_at version_of node_count value_count global_count kind_at role_at size_at begin_at end_at value_at last_at node_spot node_head forest_in forest_of tree_of offset formed precedes wrong_value wrong_global parent_in parent_of limit_of known wrong_node depth_in depth_of too_deep class_of slot_of all_stand many all_filled in_pairs for_first in_order kids_fit root_ok wrong_children
 bytes_valid = refl
 
 -- its tree, drawn, each node with its number
@@ -429,11 +429,11 @@ drawn = m 0 8 0 0 32 65535 (m 1 11 0 0 31 65535 (m 2 40 5 4 5 1 leaf (m 3 20 4 9
 abbrev printed_a : Head
 printed_a = numbered 8 20 0 21 22 0
 
-bytes_tree : tree_of looped-file ≡ drawn
+bytes_tree : tree_of looped_file ≡ drawn
 unfolding u16_at u32_at node_count value_count kind_at role_at size_at begin_at end_at value_at node_spot node_head forest_in forest_of tree_of
 bytes_tree = refl
 
-pub bytes_premises : Premises (tree_of looped-file)
+pub bytes_premises : Premises (tree_of looped_file)
 bytes_premises = subst Premises (sym bytes_tree) (record { unlike = tt; looped = tt })
 
 -- whatever fail is
@@ -441,22 +441,22 @@ drawn_reached : (p : ℕ → Bool) → Reach printed_a (body p drawn) nobody
 drawn_reached p = first (first (second (next uses skips) (now (second (next skips skips) (second (next sets skips)
     (first (first (first (first (second uses (first (here tt))))))))))))
 
-drawn_own : T (own 0 (body (spells (table_of looped-file) fail_name) drawn))
+drawn_own : T (own 0 (body (spells (table_of looped_file) fail_name) drawn))
 unfolding u16_at node_count value_count
 drawn_own = tt
 
-pub bytes_reached : Reach printed_a (body (spells (table_of looped-file) fail_name) (tree_of looped-file)) nobody
-bytes_reached = subst (λ (f : Forest). Reach printed_a (body (spells (table_of looped-file) fail_name) f) nobody) (sym bytes_tree)
-    (drawn_reached (spells (table_of looped-file) fail_name))
+pub bytes_reached : Reach printed_a (body (spells (table_of looped_file) fail_name) (tree_of looped_file)) nobody
+bytes_reached = subst (λ (f : Forest). Reach printed_a (body (spells (table_of looped_file) fail_name) f) nobody) (sym bytes_tree)
+    (drawn_reached (spells (table_of looped_file) fail_name))
 
-bytes_own : T (own 0 (body (spells (table_of looped-file) fail_name) (tree_of looped-file)))
-bytes_own = subst (λ (f : Forest). T (own 0 (body (spells (table_of looped-file) fail_name) f))) (sym bytes_tree)
+bytes_own : T (own 0 (body (spells (table_of looped_file) fail_name) (tree_of looped_file)))
+bytes_own = subst (λ (f : Forest). T (own 0 (body (spells (table_of looped_file) fail_name) f))) (sym bytes_tree)
     drawn_own
 
-pub bytes_told : Told printed_a (names_list looped-file)
-bytes_told = (the_demand looped-file (record { version = 1; nodes = 12; values = 5; names = 4; globals = 65535; rest = 228 }) bytes_valid bytes_premises
+pub bytes_told : Told printed_a (names_list looped_file)
+bytes_told = (the_demand looped_file (record { version = 1; nodes = 12; values = 5; names = 4; globals = 65535; rest = 228 }) bytes_valid bytes_premises
     ).unset of_module printed_a bytes_own bytes_reached
 
-pub bytes_list : names_list looped-file ≡ named_at 6 printed_a ∷ []
+pub bytes_list : names_list looped_file ≡ named_at 6 printed_a ∷ []
 unfolding u16_at u32_at node_count value_count kind_at role_at size_at begin_at end_at value_at node_spot node_head forest_in forest_of tree_of global_count offset met_in names_list
 bytes_list = refl

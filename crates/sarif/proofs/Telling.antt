@@ -18,13 +18,13 @@ use Rattle.rules.specs.Outcome.{answer_room, other_room, work_words, refusal, ro
 use Rattle.rules.specs.Calls.{DoneWithWork, lint_call}
 use Rattle.rules.specs.Afterwards as after
 use Rattle.rules.specs.Afterwards.{records_in}
-use Rattle.rules.specs.declared.Answer.{Answer as Lint-answer}
+use Rattle.rules.specs.declared.Answer.{Answer as lint_answer}
 use Rattle.rules.specs.declared.Refusal.{Refusal}
 use Rattle.rules.specs.declared.Refusal.TheVariants.{Tree, WorkRoom, AnswerRoom, OtherRoom}
-use Rattle.rules.specs.declared.Outcome.TheVariants.{Listed as Lint-listed, Refused as Lint-refused}
+use Rattle.rules.specs.declared.Outcome.TheVariants.{Listed as lint_listed, Refused as lint_refused}
 use Rattle.rules.proofs.Words.{length_words}
 use Rattle.rules.proofs.Whole.{file_lint_few}
-use Rattle.rules.proofs.Answered.{short_or_not, unfit, fit, work_short, work_enough, room_short, room_enough, other_short, other_enough, all_passed, refused as lint-refused-as, listed, filled, work_unfit, work_lacking, work_listed}
+use Rattle.rules.proofs.Answered.{short_or_not, unfit, fit, work_short, work_enough, room_short, room_enough, other_short, other_enough, all_passed, refused as lint_refused_as, listed, filled, work_unfit, work_lacking, work_listed}
 use Rattle.rules.proofs.Called.{valid_where_listed, room_where_listed, length_records}
 use Rattle.lint.proofs.Demands as demands
 use Rattle.answer.proofs.Whole.{no_front}
@@ -136,15 +136,15 @@ work_cleared n lent m bytes work = go (short_or_not lent (width * n)) (short_or_
     go (inr h) (inl o) = rw (room_enough (other_room m bytes ∷ []) n lent h, other_short [] m bytes o)
     go (inr h) (inr o) = rw (room_enough (other_room m bytes ∷ []) n lent h, other_enough [] m bytes o, all_passed)
 
-module _ (mode : Mode) (t work list : List ℕ) (ample : length list ≡ width * 10240) (a : Lint-answer) (list' work' : List ℕ)
+module _ (mode : Mode) (t work list : List ℕ) (ample : length list ≡ width * 10240) (a : lint_answer) (list' work' : List ℕ)
     (gives : after.Gives (lint_call mode t work list) a list' work') where
   abbrev whole : List Rec
   whole = lint_list mode t
 
-  outcome_is : {b : Lint-answer} {o w : List ℕ} → lint_call mode t work list ≡ record { answer = b; room = o; work = w } → a.outcome ≡ b.outcome
+  outcome_is : {b : lint_answer} {o w : List ℕ} → lint_call mode t work list ≡ record { answer = b; room = o; work = w } → a.outcome ≡ b.outcome
   outcome_is d = ap (λ (x : DoneWithWork). x.answer.outcome) (gives ∙ d)
 
-  module _ (n : ℕ) (i : a.outcome ≡ Lint-listed n) where
+  module _ (n : ℕ) (i : a.outcome ≡ lint_listed n) where
     got : records_in n list' ≡ whole
     got = demands.lint_records mode t work list a list' work' gives n i
 
@@ -206,14 +206,14 @@ module _ (mode : Mode) (t work list : List ℕ) (ample : length list ≡ width *
           rw no_earlier (λ i. record { answer = d.answer i; work = w i; room = d.room_after i; output = d.output_after i })
 
   -- ... and where there is none
-  pub called_refused : (why : Refusal) → a.outcome ≡ Lint-refused why → (room output : List ℕ) (b : Answer)
+  pub called_refused : (why : Refusal) → a.outcome ≡ lint_refused why → (room output : List ℕ) (b : Answer)
       → b.outcome ≡ Refused why → b.tally ≡ no_tally
       → ◌≡◌ {A = Done} (record { answer = b; work = work'; room = room; output = output }) (sarif_call mode t work room output)
   unfolding sarif_of answer_by room_by output_by work_by
   called_refused why i room output b p q = go (judged t) refl (short_or_not (length work) work_words)
     where
       -- a refusal that the joined call gives too
-      same : (other : Refusal) {o w : List ℕ} → lint_call mode t work list ≡ record { answer = lint-refused-as other; room = o; work = w }
+      same : (other : Refusal) {o w : List ℕ} → lint_call mode t work list ≡ record { answer = lint_refused_as other; room = o; work = w }
           → refusal (checks whole t work room output) ≡ some other → w ≡ work_by (some other) work
           → ◌≡◌ {A = Done} (record { answer = b; work = work'; room = room; output = output }) (sarif_call mode t work room output)
       same other d e w =

@@ -14,9 +14,9 @@ ghost use Rattle.answer.specs.Note.{rec_from};
 ghost use Rattle.page.specs.Page.{Wrote};
 ghost use Rattle.json_text.specs.Escape.{escape};
 ghost use Rattle.json_text.specs.Text.{string, ◌⇒◌, quoted, comma, text, member, lines};
-ghost use Rattle.sarif_log.specs.Words.{shown as Shown-of, value_of};
-ghost use Rattle.sarif_log.specs.Log.{only, level as level_of, message_of, index_of, result as result-of, results as results-of, rule as rule-of, rules as rules-of, sarif_log};
-ghost use Rattle.sarif_log.specs.Pieces.{span, open_place, related_place, second_related, all_related, message_end, rule_line, result_rule, result_standing, result_place, result_related, piece_most, head as head_of, tail as Tail-of, piece_of, Here, Small};
+ghost use Rattle.sarif_log.specs.Words.{shown as shown_of, value_of};
+ghost use Rattle.sarif_log.specs.Log.{only, level as level_of, message_of, index_of, result as result_of, results as results_of, rule as rule_of, rules as rules_of, sarif_log};
+ghost use Rattle.sarif_log.specs.Pieces.{span, open_place, related_place, second_related, all_related, message_end, rule_line, result_rule, result_standing, result_place, result_related, piece_most, head as head_of, tail as tail_of, piece_of, Here, Small};
 
 use answer::Words;
 use codes::{EvalSeverity, severity, short_name};
@@ -125,7 +125,7 @@ fn related(out: &mut [u8], n: usize, w: Words) -> usize
 // The value that starts at o, as an argument has it.
 fn shown(out: &mut [u8], n: usize, t: &[u8], o: usize) -> usize
     requires { Here t.now o }
-    ensures { Wrote out.old n out.new result 1530 (λ rest. escape 0 (Shown-of (value_from t.now o)) ++ rest) }
+    ensures { Wrote out.old n out.new result 1530 (λ rest. escape 0 (shown_of (value_from t.now o)) ++ rest) }
 {
     let from = o + 3;
     let to = from + u16_at(t, o + 1);
@@ -212,7 +212,7 @@ fn rule_name(out: &mut [u8], n: usize, code: u32) -> usize
 }
 
 fn rule(out: &mut [u8], n: usize, code: u32) -> usize
-    ensures { Wrote out.old n out.new result 250 (text (rule-of code)) }
+    ensures { Wrote out.old n out.new result 250 (text (rule_of code)) }
 {
     let a = raw(out, n, b"{\"id\":\"");
     let b = number(out, a, code);
@@ -242,7 +242,7 @@ fn rule_if(out: &mut [u8], n: usize, tally: [usize; CODES], code: u32) -> usize
 }
 
 fn rules(out: &mut [u8], n: usize, tally: [usize; CODES]) -> usize
-    ensures { Wrote out.old n out.new result 4420 (lines true (rules-of 1 tally)) }
+    ensures { Wrote out.old n out.new result 4420 (lines true (rules_of 1 tally)) }
 {
     let mut at = n;
     let mut code = 1;
@@ -309,7 +309,7 @@ fn result(
     w: Words,
 ) -> usize
     requires { Small t.now × Starts t.now starts.now }
-    ensures { Wrote out.old n out.new result 2400 (text (result-of t.now tally (rec_from w))) }
+    ensures { Wrote out.old n out.new result 2400 (text (result_of t.now tally (rec_from w))) }
 {
     let a = result_rule(out, n, tally, w.code);
     let b = result_place(out, a, w);
@@ -328,7 +328,7 @@ fn result_line(
     k: usize,
 ) -> usize
     requires { Small t.now × Starts t.now starts.now × (width * k + width ≤ length list.now) }
-    ensures { Wrote out.old n out.new result 2402 (λ rest. comma (eqb k 0) (0x0A ∷ text (result-of t.now tally (record_in (drop (width * k) list.now))) rest)) }
+    ensures { Wrote out.old n out.new result 2402 (λ rest. comma (eqb k 0) (0x0A ∷ text (result_of t.now tally (record_in (drop (width * k) list.now))) rest)) }
 {
     let a = line(out, n, k == 0);
     result(out, a, t, starts, tally, record_at(list, k))
@@ -344,7 +344,7 @@ fn results(
     count: usize,
 ) -> usize
     requires { Small t.now × Starts t.now starts.now × (width * count ≤ length list.now) }
-    ensures { Wrote out.old n out.new result (2402 * count) (lines true (results-of t.now tally (records_in count list.now))) }
+    ensures { Wrote out.old n out.new result (2402 * count) (lines true (results_of t.now tally (records_in count list.now))) }
 {
     let mut at = n;
     let mut left = count;
@@ -374,7 +374,7 @@ fn head(out: &mut [u8], n: usize, tally: [usize; CODES]) -> usize
 
 // What stands after the last result.
 fn tail(out: &mut [u8], n: usize) -> usize
-    ensures { Wrote out.old n out.new result 5 (λ rest. Tail-of ++ rest) }
+    ensures { Wrote out.old n out.new result 5 (λ rest. tail_of ++ rest) }
 {
     raw(out, n, b"]}]}\n")
 }

@@ -1,7 +1,7 @@
 // The words of a log's messages, one after another, and where each begins: specs/Words is their table.
 ghost use Rattle.std.specs.Prelude.{◌++◌, ◌+◌, ◌-◌, ◌≤◌, ◌<◌, length, take, drop, get_or};
 ghost use Rattle.page.specs.Page.{Wrote};
-ghost use Rattle.sarif_log.specs.Words.{reason as reason-of, phrase, kind_word};
+ghost use Rattle.sarif_log.specs.Words.{reason as reason_of, phrase, kind_word};
 
 use page::raw;
 use rules::LAST_CODE;
@@ -50,7 +50,7 @@ fn word(out: &mut [u8], n: usize, text: &[u8], begins: &[usize], k: usize) -> us
 
 // Why two keys are equal, of code 16 alone.
 fn why(out: &mut [u8], n: usize, code: u32, reason: u32) -> usize
-    ensures { Wrote out.old n out.new result 34 (λ rest. reason-of code reason ++ rest) }
+    ensures { Wrote out.old n out.new result 34 (λ rest. reason_of code reason ++ rest) }
 {
     if code != 16 {
         return n;

@@ -6,7 +6,7 @@ ghost use Rattle.rules.specs.Record.{words, width};
 ghost use Rattle.rules.specs.Joined.{codes};
 ghost use Rattle.rules.specs.Afterwards.{record_in, records_in};
 ghost use Rattle.page.specs.Page.{Wrote};
-ghost use Rattle.text.specs.Text.{line, records as records-text, listing, refused as refused-text, text_call};
+ghost use Rattle.text.specs.Text.{line, records as records_text, listing, refused as refused_text, text_call};
 ghost use Rattle.text.specs.Pieces.{end_of, ended, tally_line};
 
 use page::{count, number, put, raw};
@@ -49,7 +49,7 @@ fn entry(out: &mut [u8], n: usize, room: &[u32], first: usize) -> usize
 // The first `many` records of the room, each on its line.
 fn records(out: &mut [u8], n: usize, room: &[u32], many: usize) -> usize
     requires { width * many ≤ length room.now }
-    ensures { Wrote out.old n out.new result (11 * width * many) (λ rest. records-text (records_in many room.now) ++ rest) }
+    ensures { Wrote out.old n out.new result (11 * width * many) (λ rest. records_text (records_in many room.now) ++ rest) }
 {
     let mut at = n;
     let mut r = 0;
@@ -95,7 +95,7 @@ fn listed(out: &mut [u8], room: &[u32], many: usize) -> usize
 
 // A refusal's line.
 pub fn refused(out: &mut [u8], why: Refusal) -> usize
-    ensures { Wrote out.old 0 out.new result 50 (λ rest. refused-text why ++ rest) }
+    ensures { Wrote out.old 0 out.new result 50 (λ rest. refused_text why ++ rest) }
 {
     let a = raw(out, 0, b"refused ");
     let number = why.number();

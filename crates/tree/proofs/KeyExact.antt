@@ -28,8 +28,8 @@ use Rattle.tree.proofs.Magnitudes.{side_equal, equal_side}
 use Rattle.tree.proofs.KeySearch.{integer_form}
 use Rattle.tree.proofs.KeyTable.{like_numbers}
 use Rattle.tree.proofs.ValidTable.{value_formed, value_bytes}
-use Rattle.tree.proofs.floats.float_of.Reads as of-float
-use Rattle.tree.proofs.keys.bytes_side.Reads as of-bytes
+use Rattle.tree.proofs.floats.float_of.Reads as of_float
+use Rattle.tree.proofs.keys.bytes_side.Reads as of_bytes
 
 -- "Every finite whole float equals its integer, however large"
 pub strict_keys : (xs ys : List ℕ) → T (same_key Strict (integer xs) (floating ys)) ↔ IsNumber (little ys) (magnitude xs)
@@ -47,7 +47,7 @@ infinity_alone m ys w e t = go (same_means m (floating ys) w t)
 
 -- "Show it once over the exponent": what bytes_side answers of k bytes of t from o on and of what float_of made of 64 bits, by their contracts as
 -- the checker reads them (Post: b has t, k, o and that, a the bits; r is the answer). Equal exactly if the float is the number of those bytes.
-pub decides : (κs : _) (b : _) (r : _) (s : _) → of-bytes.Post κs b r s → (κs' : _) (a : _) (s' : _) → of-float.Post κs' a (Whole b.1.1.1.0) s'
+pub decides : (κs : _) (b : _) (r : _) (s : _) → of_bytes.Post κs b r s → (κs' : _) (a : _) (s' : _) → of_float.Post κs' a (Whole b.1.1.1.0) s'
     → (r ≡ Equal) ↔ IsNumber a.0 (magnitude (bytes_from b.1.0 b.0.now b.1.1.0))
 decides κs b r s e κs' a s' f =
     let n = valued b.1.1.1.0 in
@@ -58,7 +58,7 @@ decides κs b r s e κs' a s' f =
     )
 
 -- and where float_of answers Other, it is no whole number
-pub other_none : (κs : _) (a : _) (s : _) → of-float.Post κs a Other s → (n : ℕ) → IsNumber a.0 n → ⊥
+pub other_none : (κs : _) (a : _) (s : _) → of_float.Post κs a Other s → (n : ℕ) → IsNumber a.0 n → ⊥
 other_none κs a s f n p = none-ne-some n (f.0 ∙ grains_whole a.0 n p.0 p.1)
 
 -- ---- of a file that is judged valid: value a an integer, value b a float

@@ -6,9 +6,9 @@ use Rattle.dubious.proofs.Steps.{clash_no, clash_new, clash_put}
 use borrow.Author.Rules.{rules}
 use Rattle.dubious.proofs.clash.Reads as reads
 use Rattle.answer.proofs.put.Reads as put_reads
-use Rattle.dubious.proofs.likeness.Reads as likeness-reads
-use Rattle.dubious.proofs.previous.Reads as previous-reads
-use Rattle.dubious.proofs.to_key.Reads as to-key-reads
+use Rattle.dubious.proofs.likeness.Reads as likeness_reads
+use Rattle.dubious.proofs.previous.Reads as previous_reads
+use Rattle.dubious.proofs.to_key.Reads as to_key_reads
 use Rattle.dubious.proofs.clash.Goals as goal
 
 pub returns-then-old-j : goal.returns-then-old-j

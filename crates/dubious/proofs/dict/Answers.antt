@@ -8,8 +8,8 @@ use Rattle.answer.specs.Page.{page}
 use Rattle.answer.proofs.Flat.{Going, going, going_on, going_end, onward, empty}
 use Rattle.dubious.proofs.Steps.{clash_recs, from_key, dict_start, dict_step, dict_end}
 use Rattle.dubious.proofs.dict.Reads as reads
-use Rattle.dubious.proofs.clash.Reads as clash-reads
-use Rattle.tree.proofs.bytes.size_at.Reads as size-at-reads
+use Rattle.dubious.proofs.clash.Reads as clash_reads
+use Rattle.tree.proofs.bytes.size_at.Reads as size_at_reads
 use Rattle.dubious.proofs.dict.Goals as goal
 
 pub loop-j-init : goal.loop-j-init

@@ -9,7 +9,7 @@ use Rattle.tree.specs.code.Numbers.{like_by}
 use Rattle.answer.proofs.Flat.{Going, going, going_on, going_end}
 use Rattle.answer.proofs.Each.{each_next, each_past}
 use Rattle.dubious.proofs.duplicate_dictionary_key.Reads as reads
-use Rattle.dubious.proofs.expr.Reads as expr-reads
+use Rattle.dubious.proofs.expr.Reads as expr_reads
 use Rattle.dubious.proofs.duplicate_dictionary_key.Given as goal
 
 abbrev pub invariant-loop-i : goal.invariant-loop-i

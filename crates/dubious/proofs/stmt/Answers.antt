@@ -8,9 +8,9 @@ use Rattle.dubious.proofs.Steps.{idle_no, idle_absent, idle_other, idle_put}
 use borrow.Author.Rules.{rules}
 use Rattle.dubious.proofs.stmt.Reads as reads
 use Rattle.answer.proofs.put.Reads as put_reads
-use Rattle.tree.proofs.children.child_of.Reads as child-of-reads
-use Rattle.tree.proofs.bytes.kind_at.Reads as kind-at-reads
-use Rattle.tree.proofs.bytes.size_at.Reads as size-at-reads
+use Rattle.tree.proofs.children.child_of.Reads as child_of_reads
+use Rattle.tree.proofs.bytes.kind_at.Reads as kind_at_reads
+use Rattle.tree.proofs.bytes.size_at.Reads as size_at_reads
 use Rattle.dubious.proofs.stmt.Goals as goal
 
 pub returns-then-kind_at-ne5 : goal.returns-then-kind_at-ne5

@@ -4,7 +4,7 @@ use borrow.Author.Rules.{rules}
 use Rattle.page.proofs.Decimals.{small_wrote, large_wrote}
 use Prim.Native.Nat.{ℕ, ◌<◌}
 use Rattle.page.proofs.count.Reads as count
-use Rattle.page.proofs.digit.Reads as digit-reads
+use Rattle.page.proofs.digit.Reads as digit_reads
 use Rattle.page.proofs.put.Reads as put_reads
 use Rattle.page.proofs.+count.Goals as goal
 

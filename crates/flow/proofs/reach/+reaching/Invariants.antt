@@ -7,7 +7,7 @@ use Rattle.tree.specs.Bytes.{size_at}
 use Rattle.tree.specs.Forest.{forest_of}
 use Rattle.tree.specs.code.Part.{Part}
 use Rattle.tree.proofs.Laws.{rest, sized, ended}
-use Rattle.rules.specs.Flow.{reached, in_list as in-a-list, one_by_one as each-one}
+use Rattle.rules.specs.Flow.{reached, in_list as in_a_list, one_by_one as each_one}
 use Rattle.answer.proofs.Flat.{Going, going, going_on}
 use Rattle.flow.specs.Walks.{is_name, left}
 use Rattle.flow.proofs.Steps.{whole_at, below}
@@ -17,24 +17,24 @@ use Rattle.flow.proofs.reach.in_list.Reads as in_list
 use Rattle.flow.proofs.reach.reachable.Reads as reachable
 use Rattle.flow.proofs.reach.side.Reads as side
 use Rattle.flow.proofs.reach.sides.Reads as sides
-use Rattle.fail.proofs.is_fail.Reads as is-fail-reads
-use Rattle.flow.proofs.reach.both.Reads as both-reads
-use Rattle.flow.proofs.reach.goes_on.Reads as goes-on-reads
-use Rattle.flow.proofs.reach.stops.Reads as stops-reads
-use Rattle.flow.proofs.reach.unreachable.Reads as unreachable-reads
-use Rattle.tree.proofs.children.child_of.Reads as child-of-reads
-use Rattle.tree.proofs.bytes.kind_at.Reads as kind-at-reads
-use Rattle.tree.proofs.bytes.size_at.Reads as size-at-reads
+use Rattle.fail.proofs.is_fail.Reads as is_fail_reads
+use Rattle.flow.proofs.reach.both.Reads as both_reads
+use Rattle.flow.proofs.reach.goes_on.Reads as goes_on_reads
+use Rattle.flow.proofs.reach.stops.Reads as stops_reads
+use Rattle.flow.proofs.reach.unreachable.Reads as unreachable_reads
+use Rattle.tree.proofs.children.child_of.Reads as child_of_reads
+use Rattle.tree.proofs.bytes.kind_at.Reads as kind_at_reads
+use Rattle.tree.proofs.bytes.size_at.Reads as size_at_reads
 use Rattle.flow.proofs.reach.+reaching.Given as goal
 
 abbrev pub invariant-each-loop-j : goal.invariant-each-loop-j
-invariant-each-loop-j l = Part l.t l.j l.e × (l.i ≤ l.j) × Going l.initial.out l.initial.sheet (reached (is_name l.fail) each-one (forest_of l.t l.i l.e)).recs l.out l.sheet (reached (is_name l.fail) each-one (forest_of l.t l.j l.e)).recs
+invariant-each-loop-j l = Part l.t l.j l.e × (l.i ≤ l.j) × Going l.initial.out l.initial.sheet (reached (is_name l.fail) each_one (forest_of l.t l.i l.e)).recs l.out l.sheet (reached (is_name l.fail) each_one (forest_of l.t l.j l.e)).recs
 
 abbrev pub decreases-each-loop-j : goal.decreases-each-loop-j
 decreases-each-loop-j l = l.e - l.j
 
 abbrev pub invariant-in_list-loop-aborts : goal.invariant-in_list-loop-aborts
-invariant-in_list-loop-aborts l = Part l.t l.j l.e × (l.i ≤ l.j) × Going l.initial.out l.initial.sheet (reached (is_name l.fail) in-a-list (forest_of l.t l.i l.e)).recs l.out l.sheet (left (is_name l.fail) l.aborts (forest_of l.t l.j l.e)).recs × ((left (is_name l.fail) l.aborts (forest_of l.t l.j l.e)).stops ≡ (reached (is_name l.fail) in-a-list (forest_of l.t l.i l.e)).stops)
+invariant-in_list-loop-aborts l = Part l.t l.j l.e × (l.i ≤ l.j) × Going l.initial.out l.initial.sheet (reached (is_name l.fail) in_a_list (forest_of l.t l.i l.e)).recs l.out l.sheet (left (is_name l.fail) l.aborts (forest_of l.t l.j l.e)).recs × ((left (is_name l.fail) l.aborts (forest_of l.t l.j l.e)).stops ≡ (reached (is_name l.fail) in_a_list (forest_of l.t l.i l.e)).stops)
 
 abbrev pub decreases-in_list-loop-aborts : goal.decreases-in_list-loop-aborts
 decreases-in_list-loop-aborts l = l.e - l.j

@@ -11,11 +11,11 @@ use Rattle.flow.proofs.Tails.{check_continue, check_return, check_list, check_if
 use Rattle.flow.proofs.redundant.check.Reads as check
 use Rattle.flow.proofs.redundant.last.Reads as last
 use Rattle.flow.proofs.redundant.sides.Reads as sides
-use Rattle.flow.proofs.last.last_of.Reads as last-of-reads
-use Rattle.flow.proofs.redundant.bare.Reads as bare-reads
-use Rattle.flow.proofs.redundant.continues.Reads as continues-reads
-use Rattle.tree.proofs.bytes.kind_at.Reads as kind-at-reads
-use Rattle.tree.proofs.bytes.size_at.Reads as size-at-reads
+use Rattle.flow.proofs.last.last_of.Reads as last_of_reads
+use Rattle.flow.proofs.redundant.bare.Reads as bare_reads
+use Rattle.flow.proofs.redundant.continues.Reads as continues_reads
+use Rattle.tree.proofs.bytes.kind_at.Reads as kind_at_reads
+use Rattle.tree.proofs.bytes.size_at.Reads as size_at_reads
 use Rattle.flow.proofs.redundant.+checking.Goals as goal
 
 pub check-overflow_add-e : goal.check-overflow_add-e

@@ -2,14 +2,14 @@ use native.Mathlib.Omega.{arith}
 use Prim.Native.Nat.{◌-◌}
 use Rattle.tree.specs.Forest.{forest_of, node_head, node_spot}
 use Rattle.tree.proofs.Laws.{sized}
-use Rattle.rules.specs.Flow.{everything, returns as returns-in, bare_recs}
+use Rattle.rules.specs.Flow.{everything, returns as returns_in, bare_recs}
 use Rattle.answer.proofs.Flat.{Going, going, going_on, going_end}
 use Rattle.flow.specs.Returns.{Tidy}
 use Rattle.flow.proofs.ReturnsLaws.{tidy_later, tidy_whole, step_some, bare_next, bare_past}
 use Rattle.flow.proofs.returns.bare_returns.Given as goal
 
 abbrev pub invariant-loop-j : goal.invariant-loop-j
-invariant-loop-j l = Tidy l.t l.j l.e × Going l.initial.out l.initial.r (bare_recs (node_head l.t l.i) (node_spot l.t l.name) (node_head l.t l.why) (returns-in everything (forest_of l.t l.b l.e))) l.out l.r (bare_recs (node_head l.t l.i) (node_spot l.t l.name) (node_head l.t l.why) (returns-in everything (forest_of l.t l.j l.e)))
+invariant-loop-j l = Tidy l.t l.j l.e × Going l.initial.out l.initial.r (bare_recs (node_head l.t l.i) (node_spot l.t l.name) (node_head l.t l.why) (returns_in everything (forest_of l.t l.b l.e))) l.out l.r (bare_recs (node_head l.t l.i) (node_spot l.t l.name) (node_head l.t l.why) (returns_in everything (forest_of l.t l.j l.e)))
 
 abbrev pub decreases-loop-j : goal.decreases-loop-j
 decreases-loop-j l = l.e - l.j

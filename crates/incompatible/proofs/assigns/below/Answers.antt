@@ -10,8 +10,8 @@ use Rattle.incompatible.specs.Ledger.{is_several}
 use Rattle.incompatible.proofs.Told.{Telling, telling, telling_on, telling_end}
 use Rattle.incompatible.proofs.Deeds.{fewer, going_part, below_step, named_past}
 use Rattle.incompatible.proofs.assigns.below.Reads as reads
-use Rattle.incompatible.proofs.assigns.below_at.Reads as below-at-reads
-use Rattle.incompatible.proofs.assigns.below_next.Reads as below-next-reads
+use Rattle.incompatible.proofs.assigns.below_at.Reads as below_at_reads
+use Rattle.incompatible.proofs.assigns.below_next.Reads as below_next_reads
 use Rattle.incompatible.proofs.assigns.below.Goals as goal
 
 pub loop-j-init : goal.loop-j-init

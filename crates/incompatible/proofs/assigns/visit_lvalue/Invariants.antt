@@ -9,8 +9,8 @@ use Rattle.incompatible.specs.Ground.{Low}
 use Rattle.incompatible.proofs.Told.{Telling, telling, telling_on, telling_end}
 use Rattle.incompatible.proofs.Deeds.{fewer, named_over, named_past}
 use Rattle.incompatible.proofs.assigns.visit_lvalue.Reads as reads
-use Rattle.incompatible.proofs.assigns.lvalue.Reads as lvalue-reads
-use Rattle.tree.proofs.bytes.size_at.Reads as size-at-reads
+use Rattle.incompatible.proofs.assigns.lvalue.Reads as lvalue_reads
+use Rattle.tree.proofs.bytes.size_at.Reads as size_at_reads
 use Rattle.incompatible.proofs.assigns.visit_lvalue.Given as goal
 
 abbrev pub invariant-loop-j : goal.invariant-loop-j

@@ -10,7 +10,7 @@ use Rattle.answer.proofs.Flat.{Going, going, going_on, going_end}
 use Rattle.incompatible.specs.Five.{is, five}
 use Rattle.incompatible.proofs.Checks.{each_next, each_past}
 use Rattle.incompatible.proofs.types.bad_type_equality.Reads as reads
-use Rattle.incompatible.proofs.types.match_bad_type_equality.Reads as match-bad-type-equality-reads
+use Rattle.incompatible.proofs.types.match_bad_type_equality.Reads as match_bad_type_equality_reads
 use Rattle.incompatible.proofs.types.bad_type_equality.Goals as goal
 
 pub loop-i-init : goal.loop-i-init

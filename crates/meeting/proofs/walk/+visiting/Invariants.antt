@@ -14,14 +14,14 @@ use Rattle.meeting.proofs.walk.below.Reads as below
 use Rattle.meeting.proofs.walk.node.Reads as node
 use Rattle.meeting.proofs.walk.step.Reads as step
 use Rattle.meeting.proofs.walk.visit.Reads as visit
-use Rattle.meeting.proofs.meet.Reads as meet-reads
-use Rattle.meeting.proofs.walk.after.Reads as after-reads
-use Rattle.meeting.proofs.walk.planned.Reads as planned-reads
+use Rattle.meeting.proofs.meet.Reads as meet_reads
+use Rattle.meeting.proofs.walk.after.Reads as after_reads
+use Rattle.meeting.proofs.walk.planned.Reads as planned_reads
 use Rattle.meeting.proofs.walk.row.Reads as row_reads
-use Rattle.meeting.proofs.walk.wanted.Reads as wanted-reads
-use Rattle.tree.proofs.bytes.kind_at.Reads as kind-at-reads
-use Rattle.tree.proofs.bytes.role_at.Reads as role-at-reads
-use Rattle.tree.proofs.bytes.size_at.Reads as size-at-reads
+use Rattle.meeting.proofs.walk.wanted.Reads as wanted_reads
+use Rattle.tree.proofs.bytes.kind_at.Reads as kind_at_reads
+use Rattle.tree.proofs.bytes.role_at.Reads as role_at_reads
+use Rattle.tree.proofs.bytes.size_at.Reads as size_at_reads
 use Rattle.meeting.proofs.walk.+visiting.Given as goal
 
 abbrev pub invariant-node-loop-k : goal.invariant-node-loop-k

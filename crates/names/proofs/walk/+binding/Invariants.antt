@@ -16,11 +16,11 @@ use Rattle.names.proofs.Parts.{node_in_part, node_few, name_several, name_name, 
 use Rattle.names.proofs.Rows.{names_on, names_last, kids_as, names_as, pick_true, pick_false, name_so}
 use Rattle.names.proofs.walk.bind.Reads as bind
 use Rattle.names.proofs.walk.bind_one.Reads as bind-one
-use Rattle.names.proofs.walk.binds_name.Reads as binds-name-reads
-use Rattle.names.proofs.walk.ident.Reads as ident-reads
-use Rattle.tree.proofs.bytes.kind_at.Reads as kind-at-reads
-use Rattle.tree.proofs.bytes.role_at.Reads as role-at-reads
-use Rattle.tree.proofs.bytes.size_at.Reads as size-at-reads
+use Rattle.names.proofs.walk.binds_name.Reads as binds_name_reads
+use Rattle.names.proofs.walk.ident.Reads as ident_reads
+use Rattle.tree.proofs.bytes.kind_at.Reads as kind_at_reads
+use Rattle.tree.proofs.bytes.role_at.Reads as role_at_reads
+use Rattle.tree.proofs.bytes.size_at.Reads as size_at_reads
 use Rattle.names.proofs.walk.+binding.Given as goal
 
 abbrev pub invariant-bind-loop-i : goal.invariant-bind-loop-i

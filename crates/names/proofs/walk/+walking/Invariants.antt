@@ -30,20 +30,20 @@ use native.Mathlib.Omega.{arith}
 use Rattle.names.proofs.Going.{then, goes_fits, goes_as, enter_fits, scopes_to, leave_asks, skips, back_fits, sides_to, stop_to, goes_to, turns_to}
 use Rattle.names.proofs.Rows.{node_zero, below_ends, below_node, regroup, clause_none, clause_there, kid_as, kids_as, down_as, fail_as, cond_true, cond_false, clauses_on, clauses_last, below_rest, node_more, loop_once, loop_twice, return_node, pick_true, pick_false, visit_on, visit_last}
 use Rattle.tree.specs.Bytes.{size_at}
-use Rattle.scope.proofs.Scope.back.Reads as back-reads
-use Rattle.scope.proofs.Scope.enter.Reads as enter-reads
-use Rattle.scope.proofs.Scope.join.Reads as join-reads
-use Rattle.scope.proofs.Scope.leave.Reads as leave-reads
-use Rattle.scope.proofs.Scope.stop.Reads as stop-reads
-use Rattle.scope.proofs.Scope.unlooped.Reads as unlooped-reads
-use Rattle.scope.proofs.Scope.used.Reads as used-reads
-use Rattle.names.proofs.walk.bind.Reads as bind-reads
-use Rattle.names.proofs.walk.wanted.Reads as wanted-reads
-use Rattle.fail.proofs.is_fail.Reads as is-fail-reads
-use Rattle.tree.proofs.bytes.kind_at.Reads as kind-at-reads
-use Rattle.tree.proofs.bytes.role_at.Reads as role-at-reads
-use Rattle.tree.proofs.bytes.size_at.Reads as size-at-reads
-use Rattle.tree.proofs.children.child_of.Reads as child-of-reads
+use Rattle.scope.proofs.Scope.back.Reads as back_reads
+use Rattle.scope.proofs.Scope.enter.Reads as enter_reads
+use Rattle.scope.proofs.Scope.join.Reads as join_reads
+use Rattle.scope.proofs.Scope.leave.Reads as leave_reads
+use Rattle.scope.proofs.Scope.stop.Reads as stop_reads
+use Rattle.scope.proofs.Scope.unlooped.Reads as unlooped_reads
+use Rattle.scope.proofs.Scope.used.Reads as used_reads
+use Rattle.names.proofs.walk.bind.Reads as bind_reads
+use Rattle.names.proofs.walk.wanted.Reads as wanted_reads
+use Rattle.fail.proofs.is_fail.Reads as is_fail_reads
+use Rattle.tree.proofs.bytes.kind_at.Reads as kind_at_reads
+use Rattle.tree.proofs.bytes.role_at.Reads as role_at_reads
+use Rattle.tree.proofs.bytes.size_at.Reads as size_at_reads
+use Rattle.tree.proofs.children.child_of.Reads as child_of_reads
 use mathlib.Core.Path.{sym, ◌∙◌, refl, ◌≡◌}
 use Rattle.names.proofs.Parts.{node_statements, node_load, nine_on, eleven_off, node_few, bound_there, bound_none, clause_after, node_if, node_if_else, ten_left, node_def, node_expression, node_identifier, node_list, node_dict, node_other, node_assign, node_lambda, node_in_part, node_for, node_modify, over_there, over_none, node_break, node_continue, node_statement}
 use Rattle.names.proofs.Held.{methods}
