@@ -1,6 +1,5 @@
 -- What the rules ask of the first child of a role, by its number. Assumes nothing.
 use Prim.Native.Nat.{ℕ, ◌+◌, ◌≤◌, ◌<◌}
-use native.Mathlib.Omega.{arith}
 use mathlib.Core.Path.{◌≡◌, refl, sym, ap, ◌∙◌}
 use mathlib.Core.List.{List}
 use mathlib.Core.Bool.{Bool, true, false}
@@ -11,7 +10,7 @@ use Rattle.tree.specs.Forest.{Head, Forest, none, node, node_spot, node_head, fo
 use Rattle.tree.specs.code.Part.{Part}
 use Rattle.tree.specs.code.Find.{child_of, from_role}
 use Rattle.tree.proofs.Laws.{forest_none, forest_node}
-use Rattle.tree.proofs.Find.{child_le, child_role, child_part, child_forest}
+use Rattle.tree.proofs.Find.{child_role, child_part, child_forest}
 use Rattle.rules.specs.Visit.{no_head, head_at, spot_at, kind_among, under}
 
 -- v asks something of the first node of role r: A of its head and children, z where there is none

@@ -3,11 +3,11 @@ use Prim.Native.Nat.{ℕ, zero, suc, ◌+◌, ◌-◌, ◌≤◌, ◌<◌}
 use native.Mathlib.Omega.{arith}
 use native.Mathlib.Decide.{dec_lt}
 use mathlib.Core.Path.{◌≡◌, refl, sym, ap, ◌∙◌}
-use mathlib.Core.List.{List, [], ◌∷◌, ◌++◌, append_assoc}
+use mathlib.Core.List.{List, [], ◌++◌, append_assoc}
 use Rattle.tree.specs.Bytes.{size_at}
 use Rattle.tree.specs.Forest.{Head, Forest, none, node, node_head, forest_of}
 use Rattle.tree.specs.code.Part.{Part}
-use Rattle.tree.proofs.Laws.{later, sized, ended, kids, first, rest, forest_none, forest_node}
+use Rattle.tree.proofs.Laws.{sized, ended, kids, first, rest, forest_none, forest_node}
 use Rattle.rules.specs.Record.{Rec}
 use lib.ListN.{length}
 use Rattle.answer.specs.declared.Sheet.{Sheet}

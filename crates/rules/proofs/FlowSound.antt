@@ -14,7 +14,7 @@ use Rattle.rules.specs.Record.{Rec, listed}
 use Rattle.rules.specs.Flow.{Return, Which, everything, the_body, the_rest, wanted, returns_part, returns, ends_part, ends, reason, bare_recs, missing, check_for, check, returns_walk, flow, reached, redundant_walk, below_root, loads, effect_walk, only, missing_expression}
 use Rattle.rules.proofs.Bools.{and_left, and_right}
 use Rattle.rules.proofs.Look.{case, look_with, look_none, fewer}
-use Rattle.rules.specs.Runs.{Node, at, below, beside, Held, nobody, through, by, Run, skips, next, cut, uses as used, sets, breaking, returns as returned, left, right, done, round, continues, out, away, apart}
+use Rattle.rules.specs.Runs.{Node, at, below, beside, Held, nobody, through, by, Run, skips, next, cut, uses as used, sets, returns as returned, left, right, done, round, continues, out, away, apart}
 
 -- where a part can be come through
 abbrev Through : Cmd → Type 0

@@ -5,7 +5,7 @@ use mathlib.Core.Bool.{Bool, true, false, ◌||◌, cond}
 use lib.Dec.{eqb, leb, T}
 use Rattle.tree.specs.Forest.{Spot}
 use Rattle.rules.specs.Order.{Cmd}
-use Rattle.rules.specs.Names.{back_to, Abort, no_abort, loop_abort, function_abort, aborts, smaller, unloop, Standing, absent, maybe, definitely, sure, spots, stand_if, join, join_sure, has_standing, State, Search, Found, nowhere, surely, perhaps, stands, search_out, use_out, use_as, branch_of, round, rounds, same_state, walk, same}
+use Rattle.rules.specs.Names.{back_to, Abort, no_abort, loop_abort, function_abort, aborts, smaller, unloop, Standing, absent, maybe, definitely, sure, spots, stand_if, join, join_sure, has_standing, State, Search, Found, nowhere, surely, perhaps, search_out, use_out, use_as, branch_of, round, rounds, same_state, walk, same}
 use Rattle.rules.specs.Runs.{Held, End, through, Run, skips, next, cut, uses, sets, breaking, returns, left, right, done, round as goes, continues, out, away, apart}
 use Rattle.rules.proofs.Bools.{or_right}
 use Rattle.rules.proofs.Keep.{scope_same}

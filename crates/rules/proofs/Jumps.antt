@@ -4,7 +4,7 @@ use mathlib.Core.Path.{◌≡◌, sym, subst}
 use mathlib.Core.Bool.{Bool, true, false, cond, ◌&&◌, ◌||◌, not}
 use mathlib.Core.List.{List, [], ◌∷◌}
 use lib.Dec.{eqb, T, eqb→eq}
-use Rattle.tree.specs.Forest.{Spot, Head, Forest, Forest.none as leaf, node}
+use Rattle.tree.specs.Forest.{Head, Forest, Forest.none as leaf, node}
 use Rattle.rules.specs.Visit.{look, has}
 use Rattle.rules.specs.Order.{Form, forms, form_of, fail_called, Broken, Stop, breaks, bare, valued, fails, Sort, Cmd, skip, ◌⨟◌, use_of, set_of, stop, branch, loop, scope, Want, of_role, every, first_over, first_bound, clauses, picked, part, takes, binds, uses, Bind, one, several, nothing, bind_of, bind_part, use_part}
 use Rattle.rules.specs.Runs.{Node, at, below, beside, Body, of_module, of_def, Held, by, Run, next, cut, left, right, round, continues, away, returns, is_return}

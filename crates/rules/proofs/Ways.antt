@@ -5,7 +5,7 @@ use mathlib.Core.Path.{◌≡◌, refl, sym, subst}
 use mathlib.Core.Bool.{Bool, true, false, not, cond}
 use mathlib.Core.List.{[], ◌∷◌}
 use lib.Dec.{eqb, leb, T, leb→le}
-use Rattle.tree.specs.Forest.{Spot, Head, Forest, Forest.none as leaf, node}
+use Rattle.tree.specs.Forest.{Head, Forest, Forest.none as leaf, node}
 use Rattle.rules.specs.Visit.{has}
 use Rattle.rules.specs.Order.{Form, form_of, fail_called, Stop, Sort, Cmd, breaks, bare, valued, fails, skip, ◌⨟◌, use_of, set_of, stop, branch, loop, scope, Bind, one, several, nothing, bind_of, bind_part, use_part, binds, uses, Want, of_role, every, first_over, first_bound, clauses, picked, part, takes, body, broken_by}
 use Rattle.rules.specs.Names.{same}

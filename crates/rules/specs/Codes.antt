@@ -1,5 +1,5 @@
 -- The seventeen codes: 01's severity of each, and the short name that the Rust gives it. Assumes nothing.
-use Rattle.std.specs.Prelude.{ℕ, Bool, true, false, ◌||◌, List, [], ◌∷◌, eqb}
+use Rattle.std.specs.Prelude.{ℕ, Bool, ◌||◌, List, [], ◌∷◌, eqb}
 use Prim.Native.String.{String}
 use Rattle.tree.specs.Bytes.{ascii}
 use Rattle.rules.specs.Visit.{look}

@@ -17,7 +17,6 @@ use Rattle.scope.specs.Lists.{places}
 use Rattle.scope.specs.State.{node_in, base_in, spot_in, entry_in, room_of, rooms_of, out_of, house_of, Fits, Inside, Kept}
 use Rattle.scope.specs.Words.{Lines, is_in, join_words, join_end, pass_lines, passes_in, passed_of, farewell_of, leave_words, leave_scope}
 use Rattle.scope.specs.declared.table.Like.TheVariants.{Name}
-use Rattle.scope.specs.declared.Entry.{Entry}
 use Rattle.scope.specs.declared.Scope.{Scope}
 use Rattle.scope.proofs.Lists.{places_none, places_cons, places_length}
 use Rattle.scope.proofs.Cells.{same_spots, same_entries, same_warnings, joined_list, join_else, join_length, join_end_is, join_next}

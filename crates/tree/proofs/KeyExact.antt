@@ -6,7 +6,7 @@ use mathlib.Core.List.{List}
 use mathlib.Core.Logic.{◌↔◌}
 use mathlib.Core.Bool.{false}
 use mathlib.Core.Option.{none-ne-some, some-injective}
-use lib.Dec.{T, leb, leb→le}
+use lib.Dec.{T, leb→le}
 use lib.ListN.{length, get_or}
 use Rattle.tree.specs.Bytes.{bytes_from, value_count}
 use Rattle.tree.specs.Values.{Value, magnitude, little}

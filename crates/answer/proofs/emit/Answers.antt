@@ -4,7 +4,6 @@ use borrow.Author.Tests.{lt-ltb, le-ltb}
 use lib.ListN.{length-set}
 use Rattle.answer.specs.Page.{stored}
 use Rattle.answer.proofs.Returns.{laid_out}
-use borrow.Author.Rules.{rules}
 use Rattle.answer.proofs.emit.Goals as goal
 
 pub bounds-out-a-then-n-out : goal.bounds-out-a-then-n-out

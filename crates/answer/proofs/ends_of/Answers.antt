@@ -1,7 +1,5 @@
-use mathlib.Core.Path.{◌∙◌}
 use Rattle.tree.specs.Forest.{node_spot}
 use Rattle.answer.specs.Note.{span_of}
-use borrow.Author.Rules.{rules}
 use Rattle.answer.proofs.ends_of.Goals as goal
 
 pub returns-in-Nowhere : goal.returns-in-Nowhere

@@ -1,6 +1,4 @@
-use mathlib.Core.Path.{◌∙◌, sym}
 use borrow.Author.Tests.{lt-ltb, le-ltb}
-use borrow.Author.Rules.{rules}
 use Rattle.answer.proofs.number_at.Goals as goal
 
 pub returns-then-i-lt65535 : goal.returns-then-i-lt65535

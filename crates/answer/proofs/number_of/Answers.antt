@@ -1,5 +1,4 @@
 use Rattle.answer.specs.Note.{node_of}
-use borrow.Author.Rules.{rules}
 use Rattle.answer.proofs.number_of.Goals as goal
 
 pub returns-in-Nowhere : goal.returns-in-Nowhere

@@ -1,11 +1,5 @@
 use Rattle.answer.specs.Note.{rec_of}
 use Rattle.answer.proofs.Returns.{put_done}
-use borrow.Author.Rules.{rules}
-use Rattle.answer.proofs.put.Reads as reads
-use Rattle.answer.proofs.emit.Reads as emit_reads
-use Rattle.answer.proofs.raised.Reads as raised_reads
-use Rattle.answer.proofs.up.Reads as up_reads
-use Rattle.answer.proofs.words_of.Reads as words_of_reads
 use Rattle.answer.proofs.put.Goals as goal
 
 pub returns : goal.returns

@@ -1,8 +1,5 @@
 use Rattle.tree.specs.Forest.{node_head}
 use Rattle.answer.specs.Note.{rec_of, span_of, value_of, node_of}
-use borrow.Author.Rules.{rules}
-use Rattle.answer.proofs.put_plainly.Reads as reads
-use Rattle.answer.proofs.put.Reads as put_reads
 use Rattle.answer.proofs.put_plainly.Goals as goal
 
 pub returns : goal.returns

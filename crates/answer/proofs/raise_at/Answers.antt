@@ -1,8 +1,5 @@
 use mathlib.Core.Path.{sym}
 use Rattle.answer.proofs.Returns.{raise_none, raise_past, raise_one}
-use borrow.Author.Rules.{rules}
-use Rattle.answer.proofs.raise_at.Reads as reads
-use Rattle.answer.proofs.up.Reads as up_reads
 use Rattle.answer.proofs.raise_at.Goals as goal
 
 pub returns-then-code-lt1 : goal.returns-then-code-lt1

@@ -1,6 +1,4 @@
 use Rattle.answer.specs.Refuse.{refusal_of}
-use borrow.Author.Rules.{rules}
-use Rattle.answer.proofs.refusal_of.Reads as reads
 use Rattle.answer.proofs.refusal_of.Goals as goal
 
 pub returns-in-Refused : goal.returns-in-Refused

@@ -1,6 +1,4 @@
 use borrow.Author.Tests.{lt-ltb, le-ltb}
-use borrow.Author.Rules.{rules}
-use Rattle.answer.proofs.up.Reads as reads
 use Rattle.answer.proofs.up.Goals as goal
 
 pub returns-then-x-lt18446744073709551615 : goal.returns-then-x-lt18446744073709551615

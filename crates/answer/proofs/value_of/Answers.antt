@@ -1,10 +1,6 @@
 use mathlib.Core.Path.{◌∙◌}
 use Rattle.tree.specs.Forest.{node_spot}
 use Rattle.answer.specs.Note.{value_of}
-use borrow.Author.Rules.{rules}
-use Rattle.answer.proofs.value_of.Reads as reads
-use Rattle.answer.proofs.word.Reads as word_reads
-use Rattle.tree.proofs.bytes.value_at.Reads as value_at_reads
 use Rattle.answer.proofs.value_of.Goals as goal
 
 pub returns-in-Nowhere : goal.returns-in-Nowhere

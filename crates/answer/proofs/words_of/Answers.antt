@@ -1,5 +1,4 @@
 use Rattle.answer.proofs.Returns.{words_done}
-use borrow.Author.Rules.{rules}
 use Rattle.answer.proofs.words_of.Goals as goal
 
 pub returns : goal.returns

@@ -1,11 +1,9 @@
-use Prim.Native.Nat.{ℕ, ◌-◌, ◌≤◌, ◌<◌}
+use Prim.Native.Nat.{ℕ, ◌-◌}
 use native.Mathlib.Omega.{arith}
 use mathlib.Core.Path.{◌≡◌, refl, ap, ◌∙◌}
 use mathlib.Core.List.{List, ◌++◌}
-use lib.ListN.{length, take, drop, get_or, set, replicate}
-use Rattle.codes.specs.declared.ShortName.{ShortName}
+use lib.ListN.{length, replicate}
 use Rattle.codes.proofs.Padded.{copy_next, copied}
-use Rattle.codes.proofs.named.Reads as reads
 use Rattle.codes.proofs.named.Goals as goal
 
 pub loop-k-init : goal.loop-k-init

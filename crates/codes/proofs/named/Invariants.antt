@@ -1,11 +1,7 @@
-use Prim.Native.Nat.{ℕ, ◌-◌, ◌≤◌, ◌<◌}
-use native.Mathlib.Omega.{arith}
-use mathlib.Core.Path.{◌≡◌, refl, ap, ◌∙◌}
-use mathlib.Core.List.{List, ◌++◌}
-use lib.ListN.{length, take, drop, get_or, set, replicate}
-use Rattle.codes.specs.declared.ShortName.{ShortName}
-use Rattle.codes.proofs.Padded.{copy_next, copied}
-use Rattle.codes.proofs.named.Reads as reads
+use Prim.Native.Nat.{◌-◌, ◌≤◌}
+use mathlib.Core.Path.{◌≡◌}
+use mathlib.Core.List.{◌++◌}
+use lib.ListN.{length, take, drop, replicate}
 use Rattle.codes.proofs.named.Given as goal
 
 abbrev pub invariant-loop-k : goal.invariant-loop-k

@@ -1,5 +1,4 @@
 use borrow.Author.Tests.{ne_eqb}
-use Rattle.codes.proofs.severity.Reads as reads
 use Rattle.codes.proofs.severity.Goals as goal
 
 pub returns-in-1 : goal.returns-in-1

@@ -4,10 +4,9 @@ use Rattle.codes.specs.Named.{named}
 use Rattle.rules.specs.Codes.{short_names, short_name}
 use Prim.Native.Nat.{◌≤◌, ◌<◌}
 use mathlib.Core.Path.{◌≡◌, ap, ◌∙◌}
-use mathlib.Core.List.{List, ◌∷◌}
+use mathlib.Core.List.{◌∷◌}
 use lib.ListN.{length}
 use native.Mathlib.Omega.{arith}
-use borrow.Author.Rules.{rules}
 use Rattle.rules.specs.Joined.{codes}
 use Rattle.codes.proofs.short_name.Goals as goal
 

@@ -3,12 +3,6 @@ use mathlib.Core.Path.{sym, ◌∙◌}
 use Rattle.answer.specs.Page.{page}
 use Rattle.answer.specs.Note.{rec_of, span_of, value_of, node_of}
 use Rattle.dubious.proofs.Steps.{clash_no, clash_new, clash_put}
-use borrow.Author.Rules.{rules}
-use Rattle.dubious.proofs.clash.Reads as reads
-use Rattle.answer.proofs.put.Reads as put_reads
-use Rattle.dubious.proofs.likeness.Reads as likeness_reads
-use Rattle.dubious.proofs.previous.Reads as previous_reads
-use Rattle.dubious.proofs.to_key.Reads as to_key_reads
 use Rattle.dubious.proofs.clash.Goals as goal
 
 pub returns-then-old-j : goal.returns-then-old-j

@@ -1,15 +1,9 @@
 use native.Mathlib.Omega.{arith}
-use borrow.Author.Rules.{rules}
-use Prim.Native.Nat.{ℕ, ◌+◌, ◌-◌, ◌≤◌}
-use mathlib.Core.Path.{◌≡◌, refl, sym, ap, ◌∙◌}
-use Rattle.tree.specs.code.Part.{Part}
+use mathlib.Core.Path.{◌∙◌}
 use Rattle.tree.proofs.Laws.{rest, sized, ended}
 use Rattle.answer.specs.Page.{page}
-use Rattle.answer.proofs.Flat.{Going, going, going_on, going_end, onward, empty}
-use Rattle.dubious.proofs.Steps.{clash_recs, from_key, dict_start, dict_step, dict_end}
-use Rattle.dubious.proofs.dict.Reads as reads
-use Rattle.dubious.proofs.clash.Reads as clash_reads
-use Rattle.tree.proofs.bytes.size_at.Reads as size_at_reads
+use Rattle.answer.proofs.Flat.{going, going_on, going_end, onward, empty}
+use Rattle.dubious.proofs.Steps.{clash_recs, dict_start, dict_step, dict_end}
 use Rattle.dubious.proofs.dict.Goals as goal
 
 pub loop-j-init : goal.loop-j-init

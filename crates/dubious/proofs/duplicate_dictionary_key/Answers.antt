@@ -1,15 +1,9 @@
 use native.Mathlib.Omega.{arith}
-use Prim.Native.Nat.{◌-◌}
-use Rattle.tree.specs.Forest.{forest_of}
-use Rattle.tree.specs.code.Part.{Part}
 use Rattle.tree.proofs.Laws.{later, first, sized}
-use Rattle.rules.specs.Visit.{each}
 use Rattle.rules.specs.Dubious.{dict_at}
 use Rattle.tree.specs.code.Numbers.{like_by}
-use Rattle.answer.proofs.Flat.{Going, going, going_on, going_end}
+use Rattle.answer.proofs.Flat.{going, going_on, going_end}
 use Rattle.answer.proofs.Each.{each_next, each_past}
-use Rattle.dubious.proofs.duplicate_dictionary_key.Reads as reads
-use Rattle.dubious.proofs.expr.Reads as expr_reads
 use Rattle.dubious.proofs.duplicate_dictionary_key.Goals as goal
 
 pub loop-i-init : goal.loop-i-init

@@ -4,11 +4,6 @@ use Prim.Native.Nat.{ℕ, ◌+◌}
 use Rattle.tree.proofs.Laws.{kids}
 use Rattle.answer.specs.Page.{page}
 use Rattle.dubious.proofs.Steps.{expr_no, expr_dict}
-use borrow.Author.Rules.{rules}
-use Rattle.dubious.proofs.expr.Reads as reads
-use Rattle.dubious.proofs.dict.Reads as dict_reads
-use Rattle.tree.proofs.bytes.kind_at.Reads as kind_at_reads
-use Rattle.tree.proofs.bytes.size_at.Reads as size_at_reads
 use Rattle.dubious.proofs.expr.Goals as goal
 
 pub overflow_add-i : goal.overflow_add-i

@@ -1,14 +1,9 @@
-use native.Mathlib.Omega.{arith}
 use Prim.Native.Nat.{◌-◌}
 use Rattle.tree.specs.Forest.{forest_of}
 use Rattle.tree.specs.code.Part.{Part}
-use Rattle.tree.proofs.Laws.{later, first, sized}
 use Rattle.rules.specs.Visit.{each}
 use Rattle.rules.specs.Dubious.{idle_at}
-use Rattle.answer.proofs.Flat.{Going, going, going_on, going_end}
-use Rattle.answer.proofs.Each.{each_next, each_past}
-use Rattle.dubious.proofs.identifier_as_statement.Reads as reads
-use Rattle.dubious.proofs.stmt.Reads as stmt_reads
+use Rattle.answer.proofs.Flat.{Going}
 use Rattle.dubious.proofs.identifier_as_statement.Given as goal
 
 abbrev pub invariant-loop-i : goal.invariant-loop-i

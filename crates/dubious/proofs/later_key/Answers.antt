@@ -1,8 +1,4 @@
 use mathlib.Core.Path.{sym, ◌∙◌}
-use borrow.Author.Rules.{rules}
-use Rattle.dubious.proofs.later_key.Reads as reads
-use Rattle.dubious.proofs.likeness.Reads as likeness_reads
-use Rattle.dubious.proofs.to_key.Reads as to_key_reads
 use Rattle.dubious.proofs.later_key.Goals as goal
 
 pub returns-in-Different : goal.returns-in-Different

@@ -10,7 +10,6 @@ use Rattle.rules.specs.Dubious.{dubious_list}
 use Rattle.answer.specs.Page.{writes}
 use Rattle.answer.proofs.Whole.{no_front, short_done, listed_done}
 use Rattle.dubious.proofs.Keyed.{list_is, list_few}
-use borrow.Author.Rules.{rules}
 use Rattle.dubious.proofs.lint_valid.Goals as goal
 
 pub lint-c-requires : goal.lint-c-requires

@@ -5,12 +5,6 @@ use Prim.Native.Nat.{ℕ, ◌+◌}
 use Rattle.answer.specs.Page.{page}
 use Rattle.answer.specs.Note.{rec_of, span_of, value_of, node_of}
 use Rattle.dubious.proofs.Steps.{idle_no, idle_absent, idle_other, idle_put}
-use borrow.Author.Rules.{rules}
-use Rattle.dubious.proofs.stmt.Reads as reads
-use Rattle.answer.proofs.put.Reads as put_reads
-use Rattle.tree.proofs.children.child_of.Reads as child_of_reads
-use Rattle.tree.proofs.bytes.kind_at.Reads as kind_at_reads
-use Rattle.tree.proofs.bytes.size_at.Reads as size_at_reads
 use Rattle.dubious.proofs.stmt.Goals as goal
 
 pub returns-then-kind_at-ne5 : goal.returns-then-kind_at-ne5

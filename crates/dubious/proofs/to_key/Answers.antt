@@ -1,12 +1,7 @@
-use native.Mathlib.Omega.{arith}
 use mathlib.Core.Path.{sym, ◌∙◌, ap}
 use lib.Dec.{eqb}
 use Rattle.dubious.proofs.Steps.{key_no, key_name, key_literal}
 use Prim.Native.Nat.{ℕ}
-use borrow.Author.Rules.{rules}
-use Rattle.dubious.proofs.to_key.Reads as reads
-use Rattle.tree.proofs.bytes.kind_at.Reads as kind_at_reads
-use Rattle.tree.proofs.bytes.role_at.Reads as role_at_reads
 use Rattle.dubious.proofs.to_key.Goals as goal
 
 pub returns-then-role_at-ne8 : goal.returns-then-role_at-ne8

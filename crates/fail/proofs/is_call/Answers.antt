@@ -1,7 +1,5 @@
-use Prim.Native.Nat.{◌-◌}
 use mathlib.Core.Path.{sym, ◌∙◌}
 use borrow.Author.Tests.{ne_eqb}
-use borrow.Author.Rules.{rules}
 use Rattle.fail.proofs.is_call.Goals as goal
 
 pub returns-then-role_at-ne4 : goal.returns-then-role_at-ne4

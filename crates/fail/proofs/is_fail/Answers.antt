@@ -1,10 +1,6 @@
 use native.Mathlib.Omega.{arith}
-use borrow.Author.Rules.{rules}
-use Prim.Native.Nat.{◌-◌}
 use mathlib.Core.Path.{refl}
-use lib.Dec.{eqb}
-use Rattle.rules.specs.Order.{fail_called}
-use Rattle.fail.proofs.Laws.{Gone, called_end, called_here, called_next}
+use Rattle.fail.proofs.Laws.{called_end, called_here, called_next}
 use Rattle.fail.proofs.is_fail.Goals as goal
 
 pub loop-j-init : goal.loop-j-init

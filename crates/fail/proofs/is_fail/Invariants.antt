@@ -1,10 +1,7 @@
-use native.Mathlib.Omega.{arith}
-use borrow.Author.Rules.{rules}
 use Prim.Native.Nat.{◌-◌}
-use mathlib.Core.Path.{refl}
 use lib.Dec.{eqb}
 use Rattle.rules.specs.Order.{fail_called}
-use Rattle.fail.proofs.Laws.{Gone, called_end, called_here, called_next}
+use Rattle.fail.proofs.Laws.{Gone}
 use Rattle.fail.proofs.is_fail.Given as goal
 
 abbrev pub invariant-loop-j : goal.invariant-loop-j

@@ -1,10 +1,6 @@
 use native.Mathlib.Omega.{arith}
-use borrow.Author.Rules.{rules}
-use Prim.Native.Nat.{◌-◌}
 use mathlib.Core.Path.{refl}
-use lib.Dec.{eqb}
-use Rattle.rules.specs.Order.{fail_named}
-use Rattle.fail.proofs.Laws.{Gone, named_end, named_here, named_next}
+use Rattle.fail.proofs.Laws.{named_end, named_here, named_next}
 use Rattle.fail.proofs.names_fail.Goals as goal
 
 pub loop-j-init : goal.loop-j-init

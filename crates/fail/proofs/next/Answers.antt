@@ -1,5 +1,3 @@
-use borrow.Author.Rules.{rules}
-use Prim.Native.Nat.{◌≤◌}
 use native.Mathlib.Omega.{arith}
 use Rattle.tree.proofs.Laws.{sized, ended}
 use Rattle.fail.proofs.next.Goals as goal

@@ -1,7 +1,6 @@
 -- Escaped, and as it stands. Assumes nothing.
 use mathlib.Core.Path.{sym, ◌∙◌}
 use Rattle.json_text.proofs.Pieces.{ascii_six, ascii_kept}
-use borrow.Author.Rules.{rules}
 use Rattle.json_text.proofs.ascii_byte.Goals as goal
 
 pub returns-then-must : goal.returns-then-must

@@ -1,12 +1,11 @@
 -- What is left to be written is the text of what is left of s. Assumes nothing.
-use Prim.Native.Nat.{ℕ, ◌+◌, ◌-◌, ◌*◌, ◌≤◌}
+use Prim.Native.Nat.{ℕ, ◌+◌, ◌*◌}
 use native.Mathlib.Omega.{arith}
-use mathlib.Core.Path.{◌≡◌, refl, sym, ap, ◌∙◌}
+use mathlib.Core.Path.{refl, sym, ap, ◌∙◌}
 use mathlib.Core.List.{◌++◌}
 use lib.ListN.{length, drop, drop_of_length-le}
-use borrow.Author.Rules.{rules}
 use Rattle.json_text.specs.Escape.{escape, first}
-use Rattle.page.proofs.Going.{Going, going_first, going_next, going_last}
+use Rattle.page.proofs.Going.{going_first, going_next, going_last}
 use Rattle.json_text.proofs.Pieces.{escape_next, escape_end}
 use Rattle.json_text.proofs.escaped.Goals as goal
 

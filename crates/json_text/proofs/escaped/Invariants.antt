@@ -1,12 +1,8 @@
-use Prim.Native.Nat.{ℕ, ◌+◌, ◌-◌, ◌*◌, ◌≤◌}
-use native.Mathlib.Omega.{arith}
-use mathlib.Core.Path.{◌≡◌, refl, sym, ap, ◌∙◌}
-use mathlib.Core.List.{◌++◌}
-use lib.ListN.{length, drop, drop_of_length-le}
-use borrow.Author.Rules.{rules}
-use Rattle.json_text.specs.Escape.{escape, first}
-use Rattle.page.proofs.Going.{Going, going_first, going_next, going_last}
-use Rattle.json_text.proofs.Pieces.{escape_next, escape_end}
+use Prim.Native.Nat.{◌-◌, ◌*◌, ◌≤◌}
+use mathlib.Core.Path.{◌≡◌}
+use lib.ListN.{length, drop}
+use Rattle.json_text.specs.Escape.{escape}
+use Rattle.page.proofs.Going.{Going}
 use Rattle.json_text.proofs.escaped.Given as goal
 
 abbrev pub invariant-loop-i : goal.invariant-loop-i

@@ -1,6 +1,5 @@
 -- From the four bytes. Assumes nothing.
 use Rattle.json_text.proofs.Pieces.{front_at}
-use borrow.Author.Rules.{rules}
 use Rattle.json_text.proofs.front.Goals as goal
 
 pub returns : goal.returns

@@ -1,6 +1,5 @@
 -- One digit after the other. Assumes nothing.
 use Rattle.json_text.proofs.Pieces.{hex_wrote}
-use borrow.Author.Rules.{rules}
 use Rattle.json_text.proofs.hex.Goals as goal
 
 pub returns : goal.returns

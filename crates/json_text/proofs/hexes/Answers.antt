@@ -1,11 +1,10 @@
 -- What is left to be written is the digits of what is left of s. Assumes nothing.
-use Prim.Native.Nat.{◌+◌, ◌-◌, ◌*◌, ◌≤◌}
+use Prim.Native.Nat.{◌+◌, ◌*◌}
 use native.Mathlib.Omega.{arith}
-use mathlib.Core.Path.{◌≡◌, refl}
+use mathlib.Core.Path.{refl}
 use lib.ListN.{length, get_or, drop, drop_of_length-le}
-use borrow.Author.Rules.{rules}
 use Rattle.json_text.specs.Escape.{hex, hexes}
-use Rattle.page.proofs.Going.{Going, going_first, going_next, going_last}
+use Rattle.page.proofs.Going.{going_first, going_next, going_last}
 use Rattle.json_text.proofs.Pieces.{hexes_next, hexes_end}
 use Rattle.json_text.proofs.hexes.Goals as goal
 

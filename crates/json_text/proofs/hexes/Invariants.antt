@@ -1,11 +1,8 @@
-use Prim.Native.Nat.{◌+◌, ◌-◌, ◌*◌, ◌≤◌}
-use native.Mathlib.Omega.{arith}
-use mathlib.Core.Path.{◌≡◌, refl}
-use lib.ListN.{length, get_or, drop, drop_of_length-le}
-use borrow.Author.Rules.{rules}
-use Rattle.json_text.specs.Escape.{hex, hexes}
-use Rattle.page.proofs.Going.{Going, going_first, going_next, going_last}
-use Rattle.json_text.proofs.Pieces.{hexes_next, hexes_end}
+use Prim.Native.Nat.{◌-◌, ◌*◌, ◌≤◌}
+use mathlib.Core.Path.{◌≡◌}
+use lib.ListN.{length, drop}
+use Rattle.json_text.specs.Escape.{hexes}
+use Rattle.page.proofs.Going.{Going}
 use Rattle.json_text.proofs.hexes.Given as goal
 
 abbrev pub invariant-loop-i : goal.invariant-loop-i

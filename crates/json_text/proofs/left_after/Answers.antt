@@ -3,7 +3,6 @@ use Prim.Native.Nat.{ℕ, ◌-◌}
 use mathlib.Core.Path.{sym, ap, ◌∙◌}
 use lib.ListN.{drop}
 use Rattle.json_text.proofs.Pieces.{left_inside, left_begin}
-use borrow.Author.Rules.{rules}
 use Rattle.json_text.proofs.left_after.Goals as goal
 
 pub returns-then-left-gt0 : goal.returns-then-left-gt0

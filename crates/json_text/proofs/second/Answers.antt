@@ -1,6 +1,5 @@
 -- Below the least, and from there on. Assumes nothing.
 use Rattle.json_text.proofs.Leading.{second_below, second_from}
-use borrow.Author.Rules.{rules}
 use Rattle.json_text.proofs.second.Goals as goal
 
 pub returns-then-b-low : goal.returns-then-b-low

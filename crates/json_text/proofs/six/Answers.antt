@@ -1,6 +1,5 @@
 -- Four bytes, then the two digits. Assumes nothing.
 use Rattle.json_text.proofs.Pieces.{six_wrote}
-use borrow.Author.Rules.{rules}
 use Rattle.json_text.proofs.six.Goals as goal
 
 pub returns : goal.returns

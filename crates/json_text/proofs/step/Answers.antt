@@ -1,6 +1,5 @@
 -- Inside a character, and at its begin. Assumes nothing.
 use Rattle.json_text.proofs.Pieces.{step_inside, step_begin}
-use borrow.Author.Rules.{rules}
 use Rattle.json_text.proofs.step.Goals as goal
 
 pub returns-then-left-gt0 : goal.returns-then-left-gt0

@@ -1,6 +1,5 @@
 -- By the length of the character. Assumes nothing.
 use Rattle.json_text.proofs.Pieces.{unit_none, unit_one, unit_more}
-use borrow.Author.Rules.{rules}
 use Rattle.json_text.proofs.unit.Goals as goal
 
 pub returns-then-k-eq0 : goal.returns-then-k-eq0

@@ -1,9 +1,7 @@
 -- One case after the other. Assumes nothing.
 use native.Mathlib.Omega.{arith}
 use mathlib.Core.Path.{sym, ◌∙◌}
-use borrow.Author.Tests.{not-true, not-false}
 use Rattle.json_text.proofs.Leading.{whole_over, whole_second, whole_two, whole_third, whole_three, whole_fourth, whole_four}
-use borrow.Author.Rules.{rules}
 use Rattle.json_text.proofs.whole.Goals as goal
 
 pub returns-then-k-gt3 : goal.returns-then-k-gt3

@@ -1,11 +1,6 @@
 -- A number of one digit, and one of more: the rest of it is smaller. Assumes nothing.
 use native.Mathlib.Omega.{arith}
-use borrow.Author.Rules.{rules}
 use Rattle.page.proofs.Decimals.{small_wrote, large_wrote}
-use Prim.Native.Nat.{ℕ, ◌<◌}
-use Rattle.page.proofs.count.Reads as count
-use Rattle.page.proofs.digit.Reads as digit_reads
-use Rattle.page.proofs.put.Reads as put_reads
 use Rattle.page.proofs.+count.Goals as goal
 
 pub returns-then-x-lt10 : goal.returns-then-x-lt10

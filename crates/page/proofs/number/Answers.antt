@@ -1,7 +1,6 @@
 -- The same digits, told with their own bound. Assumes nothing.
 use native.Mathlib.Omega.{arith}
 use Rattle.page.proofs.Decimals.{number_wrote}
-use borrow.Author.Rules.{rules}
 use Rattle.page.proofs.number.Goals as goal
 
 pub returns : goal.returns

@@ -1,7 +1,6 @@
 -- Where there is room for the byte, and where there is none. Assumes nothing.
 use native.Mathlib.Omega.{arith}
 use Rattle.page.proofs.Pages.{byte_stored, byte_counted}
-use borrow.Author.Rules.{rules}
 use Rattle.page.proofs.put.Goals as goal
 
 pub returns-then-n-out : goal.returns-then-n-out

@@ -1,11 +1,10 @@
 -- What is left to be written is what is left of s. Assumes nothing.
-use Prim.Native.Nat.{◌+◌, ◌-◌, ◌≤◌}
+use Prim.Native.Nat.{◌+◌}
 use native.Mathlib.Omega.{arith}
-use mathlib.Core.Path.{◌≡◌, refl}
+use mathlib.Core.Path.{refl}
 use mathlib.Core.List.{[], ◌∷◌}
 use lib.ListN.{length, get_or, drop, drop_of_length-le}
-use borrow.Author.Rules.{rules}
-use Rattle.page.proofs.Going.{Going, going_first, going_next, going_last, bytes_next}
+use Rattle.page.proofs.Going.{going_first, going_next, going_last, bytes_next}
 use Rattle.page.proofs.raw.Goals as goal
 
 pub loop-i-init : goal.loop-i-init

@@ -1,11 +1,10 @@
-use Prim.Native.Nat.{ℕ, ◌-◌}
+use Prim.Native.Nat.{ℕ}
 use native.Mathlib.Omega.{arith}
 use mathlib.Core.Path.{ap, ◌∙◌}
 use Rattle.rules.specs.Names.{unused}
 use Rattle.scope.specs.State.{sort_of}
 use Rattle.scope.specs.Words.{Lines, warn_lines}
 use Rattle.scope.proofs.Steps.{idle_not, idle_so, code_small}
-use borrow.Author.Rules.{rules}
 use Rattle.scope.proofs.idle_one.Goals as goal
 
 pub returns-then-spared : goal.returns-then-spared

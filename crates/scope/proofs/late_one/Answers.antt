@@ -1,9 +1,7 @@
-use Prim.Native.Nat.{◌-◌}
 use native.Mathlib.Omega.{arith}
 use mathlib.Core.Path.{ap, ◌∙◌}
 use Rattle.scope.specs.Words.{Lines, warn_lines}
 use Rattle.scope.proofs.Steps.{late_so, late_not}
-use borrow.Author.Rules.{rules}
 use Rattle.scope.proofs.late_one.Goals as goal
 
 pub returns-then-p-b : goal.returns-then-p-b

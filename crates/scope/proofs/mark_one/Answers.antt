@@ -1,11 +1,9 @@
-use Prim.Native.Nat.{◌-◌}
 use mathlib.Core.Path.{◌≡◌, sym, ◌∙◌}
 use mathlib.Core.Bool.{true, false}
 use Rattle.scope.specs.State.{node_in}
 use Rattle.scope.specs.Words.{alike_at}
 use Rattle.scope.specs.declared.table.Like.TheVariants.{Name}
 use Rattle.scope.proofs.Steps.{mark_so, mark_other, mark_not}
-use borrow.Author.Rules.{rules}
 use Rattle.scope.proofs.mark_one.Goals as goal
 
 pub returns-then-same_name : goal.returns-then-same_name

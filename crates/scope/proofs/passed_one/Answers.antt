@@ -1,9 +1,7 @@
-use Prim.Native.Nat.{◌-◌}
 use native.Mathlib.Omega.{arith}
 use mathlib.Core.Path.{ap, ◌∙◌}
 use Rattle.scope.specs.Words.{Lines}
 use Rattle.scope.proofs.Steps.{pass_not, pass_so}
-use borrow.Author.Rules.{rules}
 use Rattle.scope.proofs.passed_one.Goals as goal
 
 pub returns-then-p-b : goal.returns-then-p-b

@@ -1,10 +1,8 @@
-use Prim.Native.Nat.{◌-◌}
 use mathlib.Core.Path.{◌≡◌, sym, ◌∙◌}
 use mathlib.Core.Bool.{true, false}
 use lib.Dec.{eqb}
 use Rattle.tree.specs.Bytes.{value_at}
 use Rattle.scope.specs.Words.{alike_at, reset_of}
-use borrow.Author.Rules.{rules}
 use Rattle.scope.proofs.reset.Goals as goal
 
 pub returns-then-same_name : goal.returns-then-same_name

@@ -1,4 +1,3 @@
-use Prim.Native.Nat.{◌-◌}
 use mathlib.Core.Path.{◌≡◌, sym, ◌∙◌}
 use mathlib.Core.Bool.{true, false}
 use lib.Dec.{eqb}
@@ -6,7 +5,6 @@ use borrow.Author.Tests.{lt-ltb, le-ltb, eq-eqb, ne_eqb}
 use Rattle.scope.specs.State.{used_in}
 use Rattle.scope.specs.Words.{find_in, spared_in}
 use Rattle.scope.specs.declared.table.Like.TheVariants.{Name}
-use borrow.Author.Rules.{rules}
 use Rattle.scope.proofs.spared.Goals as goal
 
 pub returns-then-word_at-eq1 : goal.returns-then-word_at-eq1

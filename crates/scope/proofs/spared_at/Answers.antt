@@ -1,9 +1,8 @@
-use Prim.Native.Nat.{ℕ, ◌-◌}
+use Prim.Native.Nat.{ℕ}
 use mathlib.Core.Path.{sym, ap, ◌∙◌}
 use Rattle.rules.specs.Names.{unused}
 use Rattle.scope.specs.State.{sort_of}
 use Rattle.scope.proofs.Steps.{spared_sort, spared_under, spared_held, spared_below}
-use borrow.Author.Rules.{rules}
 use Rattle.scope.proofs.spared_at.Goals as goal
 
 pub returns-then-code_of-ne2 : goal.returns-then-code_of-ne2

@@ -1,4 +1,3 @@
-use Prim.Native.Nat.{◌-◌}
 use native.Mathlib.Omega.{arith}
 use mathlib.Core.Path.{◌≡◌, sym, ap, ◌∙◌}
 use mathlib.Core.Bool.{true, false}
@@ -6,7 +5,6 @@ use Rattle.tree.specs.Bytes.{value_at}
 use Rattle.tree.specs.Table.{is_global}
 use Rattle.scope.specs.Words.{Lines, warn_lines}
 use Rattle.scope.proofs.Steps.{unknown_set, unknown_given, unknown_so}
-use borrow.Author.Rules.{rules}
 use Rattle.scope.proofs.unknown_one.Goals as goal
 
 pub returns-then-p-b : goal.returns-then-p-b

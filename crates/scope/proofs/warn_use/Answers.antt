@@ -1,4 +1,3 @@
-use borrow.Author.Rules.{rules}
 use Rattle.scope.proofs.warn_use.Goals as goal
 
 pub returns-then-late : goal.returns-then-late

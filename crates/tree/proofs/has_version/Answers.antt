@@ -1,6 +1,5 @@
-use borrow.Author.Rules.{rules}
 use borrow.Author.Tests.{eq-eqb, ne_eqb}
-use mathlib.Core.Path.{◌≡◌, sym, ◌∙◌}
+use mathlib.Core.Path.{sym, ◌∙◌}
 use Rattle.tree.proofs.has_version.Goals as goal
 
 pub returns-then-version-eq1 : goal.returns-then-version-eq1

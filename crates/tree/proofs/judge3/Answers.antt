@@ -1,5 +1,3 @@
-use borrow.Author.Rules.{rules}
-use Prim.Native.Nat.{◌-◌}
 use mathlib.Core.Path.{sym, ◌∙◌}
 use Rattle.tree.specs.code.Stages.{judged3}
 use Rattle.tree.proofs.Limits.{limits_facts}

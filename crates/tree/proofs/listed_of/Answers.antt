@@ -1,5 +1,4 @@
 use borrow.Author.Tests.{eq-eqb, ne_eqb}
-use Prim.Native.Nat.{◌-◌}
 use Rattle.tree.proofs.listed_of.Goals as goal
 
 pub returns-then-g-eq65535 : goal.returns-then-g-eq65535

@@ -9,7 +9,6 @@ use Rattle.tree.specs.Nodes.{parent_of, limit_of, known, holds_name, too_deep}
 use Rattle.tree.specs.Judge.{refuse_at, marked, versioned, limits}
 use Rattle.tree.specs.code.Kids.{bad7}
 use Rattle.tree.specs.declared.Facts.{Facts}
-use Rattle.tree.specs.declared.Refusal.{Refusal}
 use Rattle.tree.specs.declared.Refusal.TheVariants.{Mark, Version, Counts, Sections, Value as ValueAt, Node, Children, Depth, Global}
 use Rattle.tree.specs.declared.Judged.{Judged}
 use Rattle.tree.specs.declared.Judged.TheVariants.{Valid, Refused}

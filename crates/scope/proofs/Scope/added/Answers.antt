@@ -1,6 +1,4 @@
-use Prim.Native.Nat.{◌-◌}
 use Rattle.scope.proofs.Steps.{added_there, added_new, added_full}
-use borrow.Author.Rules.{rules}
 use Rattle.scope.proofs.Scope.added.Goals as goal
 
 pub returns-then-q-n : goal.returns-then-q-n

@@ -1,16 +1,6 @@
-use Prim.Native.Nat.{ℕ, ◌-◌, ◌≤◌}
-use native.Mathlib.Omega.{arith}
-use mathlib.Core.Path.{◌≡◌, refl, sym, ap, ◌∙◌}
-use mathlib.Core.Bool.{true, false}
-use mathlib.Core.List.{List}
-use lib.Dec.{eqb}
-use lib.ListN.{length}
-use borrow.Author.Tests.{ne_eqb}
-use borrow.Author.Rules.{rules}
-use Rattle.scope.specs.State.{base_in}
-use Rattle.scope.specs.declared.Scope.{Scope}
-use Rattle.scope.specs.Words.{away_scope, away_words, outward_in, outward_of, present_of, standing_in}
-use Rattle.scope.proofs.Steps.{outward_none, outward_bad, outward_here, outward_on}
+use Prim.Native.Nat.{◌≤◌}
+use mathlib.Core.Path.{◌≡◌}
+use Rattle.scope.specs.Words.{outward_in}
 use Rattle.scope.proofs.Scope.away.Given as goal
 
 abbrev pub invariant-loop-b : goal.invariant-loop-b

@@ -1,4 +1,3 @@
-use Prim.Native.Nat.{◌-◌}
 use mathlib.Core.Path.{refl}
 use Rattle.scope.specs.Words.{back_scope}
 use Rattle.scope.proofs.Scope.back.Goals as goal

@@ -1,6 +1,4 @@
-use Prim.Native.Nat.{◌-◌}
 use Rattle.scope.specs.Words.{cannot_scope, cannot_words}
-use borrow.Author.Rules.{rules}
 use Rattle.scope.proofs.Scope.cannot.Goals as goal
 
 pub returns : goal.returns

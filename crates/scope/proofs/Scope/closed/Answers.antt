@@ -1,11 +1,9 @@
-use Prim.Native.Nat.{◌-◌}
 use mathlib.Core.Path.{◌≡◌, sym, ◌∙◌}
 use mathlib.Core.Bool.{true, false}
 use Rattle.scope.specs.Words.{closed_of, farewell_of, late_of, unknown_of}
 use lib.Dec.{eqb}
 use borrow.Author.Tests.{not-true, not-false}
 use Rattle.tree.specs.Bytes.{global_count}
-use borrow.Author.Rules.{rules}
 use Rattle.scope.proofs.Scope.closed.Goals as goal
 
 pub returns-then-globals_given : goal.returns-then-globals_given

@@ -1,9 +1,7 @@
-use Prim.Native.Nat.{◌-◌}
 use native.Mathlib.Omega.{arith}
 use mathlib.Core.Path.{sym, ◌∙◌}
 use lib.ListN.{get_or-eq_default}
 use Rattle.scope.specs.State.{no_entry}
-use borrow.Author.Rules.{rules}
 use Rattle.scope.proofs.Scope.entry.Goals as goal
 
 pub returns : goal.returns

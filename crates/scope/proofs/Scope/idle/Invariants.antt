@@ -1,11 +1,7 @@
-use Rattle.scope.proofs.Find.{find_self}
 use Prim.Native.Nat.{◌-◌, ◌≤◌}
-use native.Mathlib.Omega.{arith}
-use mathlib.Core.Path.{◌≡◌, refl, sym, ap, ◌∙◌}
+use mathlib.Core.Path.{◌≡◌}
 use lib.ListN.{length}
-use Rattle.scope.specs.Words.{Lines, idles_in, idle_of}
-use Rattle.scope.proofs.Steps.{idles_end, idles_next}
-use borrow.Author.Rules.{rules}
+use Rattle.scope.specs.Words.{idles_in}
 use Rattle.scope.proofs.Scope.idle.Given as goal
 
 abbrev pub invariant-loop-j : goal.invariant-loop-j

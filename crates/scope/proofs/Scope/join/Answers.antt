@@ -1,6 +1,4 @@
-use Prim.Native.Nat.{◌-◌}
 use Rattle.scope.specs.Words.{join_scope}
-use borrow.Author.Rules.{rules}
 use Rattle.scope.proofs.Scope.join.Goals as goal
 
 pub returns : goal.returns

@@ -1,7 +1,5 @@
-use Prim.Native.Nat.{◌-◌}
 use mathlib.Core.Path.{◌∙◌}
 use Rattle.scope.specs.Words.{leave_scope, leave_words, farewell_of, late_of}
-use borrow.Author.Rules.{rules}
 use Rattle.scope.proofs.Scope.leave.Goals as goal
 
 pub returns : goal.returns

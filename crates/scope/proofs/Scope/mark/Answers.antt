@@ -1,8 +1,5 @@
-use Prim.Native.Nat.{◌-◌, ◌≤◌}
 use native.Mathlib.Omega.{arith}
-use mathlib.Core.Path.{◌≡◌, refl, sym, ◌∙◌}
-use lib.ListN.{length}
-use Rattle.scope.specs.Words.{marks_of}
+use mathlib.Core.Path.{refl, sym, ◌∙◌}
 use Rattle.scope.proofs.Steps.{marks_end, marks_next}
 use borrow.Author.Rules.{rules}
 use Rattle.scope.proofs.Scope.mark.Goals as goal

@@ -1,10 +1,7 @@
 use Prim.Native.Nat.{◌-◌, ◌≤◌}
-use native.Mathlib.Omega.{arith}
-use mathlib.Core.Path.{◌≡◌, refl, sym, ◌∙◌}
+use mathlib.Core.Path.{◌≡◌}
 use lib.ListN.{length}
 use Rattle.scope.specs.Words.{marks_of}
-use Rattle.scope.proofs.Steps.{marks_end, marks_next}
-use borrow.Author.Rules.{rules}
 use Rattle.scope.proofs.Scope.mark.Given as goal
 
 abbrev pub invariant-loop-j : goal.invariant-loop-j

@@ -1,13 +1,11 @@
 use Rattle.scope.specs.declared.Scope.{Scope}
 use Rattle.scope.specs.declared.Entry.{Entry}
-use Prim.Native.Nat.{◌-◌}
 use native.Mathlib.Omega.{arith}
-use mathlib.Core.Path.{◌≡◌, refl, sym, ap, ◌∙◌}
+use mathlib.Core.Path.{refl, sym, ap, ◌∙◌}
 use mathlib.Core.List.{List}
 use lib.ListN.{set}
-use Rattle.scope.specs.Words.{merges_in, with_entries, merged_scope}
+use Rattle.scope.specs.Words.{with_entries, merged_scope}
 use Rattle.scope.proofs.Steps.{merges_end, merges_next}
-use borrow.Author.Rules.{rules}
 use Rattle.scope.proofs.Scope.merged.Goals as goal
 
 pub loop-j-init : goal.loop-j-init

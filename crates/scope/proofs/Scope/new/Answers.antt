@@ -1,6 +1,4 @@
-use Prim.Native.Nat.{◌-◌}
 use Rattle.scope.specs.Words.{new_scope}
-use borrow.Author.Rules.{rules}
 use Rattle.scope.proofs.Scope.new.Goals as goal
 
 pub returns : goal.returns

@@ -1,6 +1,5 @@
 use native.Mathlib.Omega.{arith}
 use Rattle.scope.specs.Words.{away_scope, away_words, cannot_scope}
-use borrow.Author.Rules.{rules}
 use Rattle.scope.proofs.Scope.nowhere.Goals as goal
 
 pub unbinds-requires : goal.unbinds-requires

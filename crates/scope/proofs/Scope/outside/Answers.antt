@@ -1,5 +1,4 @@
 use Rattle.scope.proofs.Steps.{taken_cants}
-use borrow.Author.Rules.{rules}
 use Rattle.scope.proofs.Scope.outside.Goals as goal
 
 pub cannot-requires : goal.cannot-requires

@@ -1,8 +1,6 @@
-use Prim.Native.Nat.{◌-◌, ◌≤◌}
 use native.Mathlib.Omega.{arith}
-use mathlib.Core.Path.{◌≡◌, refl, sym, ap, ◌∙◌}
-use lib.ListN.{length}
-use Rattle.scope.specs.Words.{Lines, passes_in, passed_of}
+use mathlib.Core.Path.{refl, sym, ap, ◌∙◌}
+use Rattle.scope.specs.Words.{Lines, passed_of}
 use Rattle.scope.proofs.Steps.{passes_end, passes_next}
 use borrow.Author.Rules.{rules}
 use Rattle.scope.proofs.Scope.passed.Goals as goal

@@ -1,10 +1,7 @@
 use Prim.Native.Nat.{◌-◌, ◌≤◌}
-use native.Mathlib.Omega.{arith}
-use mathlib.Core.Path.{◌≡◌, refl, sym, ap, ◌∙◌}
+use mathlib.Core.Path.{◌≡◌}
 use lib.ListN.{length}
-use Rattle.scope.specs.Words.{Lines, passes_in, passed_of}
-use Rattle.scope.proofs.Steps.{passes_end, passes_next}
-use borrow.Author.Rules.{rules}
+use Rattle.scope.specs.Words.{passes_in}
 use Rattle.scope.proofs.Scope.passed.Given as goal
 
 abbrev pub invariant-loop-k : goal.invariant-loop-k

@@ -1,9 +1,7 @@
-use Prim.Native.Nat.{◌-◌}
 use native.Mathlib.Omega.{arith}
 use mathlib.Core.Path.{◌∙◌}
 use Rattle.scope.specs.Words.{set_scope}
 use Rattle.scope.proofs.Steps.{added_small}
-use borrow.Author.Rules.{rules}
 use Rattle.scope.proofs.Scope.set.Goals as goal
 
 pub settled-requires : goal.settled-requires

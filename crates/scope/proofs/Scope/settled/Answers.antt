@@ -1,13 +1,11 @@
 use Rattle.scope.specs.declared.Scope.{Scope}
 use Rattle.scope.specs.declared.Entry.{Entry}
-use Prim.Native.Nat.{◌-◌}
 use native.Mathlib.Omega.{arith}
-use mathlib.Core.Path.{◌≡◌, refl, sym, ap, ◌∙◌}
+use mathlib.Core.Path.{refl, sym, ap, ◌∙◌}
 use mathlib.Core.List.{List}
 use lib.ListN.{set}
-use Rattle.scope.specs.Words.{resets_in, with_entries, settled_scope}
+use Rattle.scope.specs.Words.{with_entries, settled_scope}
 use Rattle.scope.proofs.Steps.{resets_end, resets_next}
-use borrow.Author.Rules.{rules}
 use Rattle.scope.proofs.Scope.settled.Goals as goal
 
 pub loop-j-init : goal.loop-j-init

@@ -1,13 +1,6 @@
-use Rattle.scope.specs.declared.Scope.{Scope}
-use Rattle.scope.specs.declared.Entry.{Entry}
 use Prim.Native.Nat.{◌-◌}
-use native.Mathlib.Omega.{arith}
-use mathlib.Core.Path.{◌≡◌, refl, sym, ap, ◌∙◌}
-use mathlib.Core.List.{List}
-use lib.ListN.{set}
-use Rattle.scope.specs.Words.{resets_in, with_entries, settled_scope}
-use Rattle.scope.proofs.Steps.{resets_end, resets_next}
-use borrow.Author.Rules.{rules}
+use mathlib.Core.Path.{◌≡◌}
+use Rattle.scope.specs.Words.{resets_in, with_entries}
 use Rattle.scope.proofs.Scope.settled.Given as goal
 
 abbrev pub invariant-loop-j : goal.invariant-loop-j

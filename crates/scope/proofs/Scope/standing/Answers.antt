@@ -1,8 +1,6 @@
-use Prim.Native.Nat.{◌-◌}
 use borrow.Author.Tests.{lt-ltb, le-ltb}
 use Rattle.scope.specs.Words.{find_in, standing_in}
 use Rattle.scope.specs.declared.table.Like.TheVariants.{Name}
-use borrow.Author.Rules.{rules}
 use Rattle.scope.proofs.Scope.standing.Goals as goal
 
 pub returns-then-p-b : goal.returns-then-p-b

@@ -1,8 +1,6 @@
-use Prim.Native.Nat.{◌-◌}
 use mathlib.Core.Path.{◌≡◌, sym, ◌∙◌}
 use mathlib.Core.Bool.{true, false}
 use Rattle.scope.specs.Words.{taken_scope, taken_words, sure_of}
-use borrow.Author.Rules.{rules}
 use Rattle.scope.proofs.Scope.taken.Goals as goal
 
 pub returns-then-sure : goal.returns-then-sure

@@ -1,6 +1,4 @@
-use Prim.Native.Nat.{◌-◌}
 use Rattle.scope.specs.Words.{unbinds_scope, unbinds_words}
-use borrow.Author.Rules.{rules}
 use Rattle.scope.proofs.Scope.unbinds.Goals as goal
 
 pub returns : goal.returns

@@ -1,5 +1,3 @@
-use Prim.Native.Nat.{◌-◌}
-use borrow.Author.Rules.{rules}
 use Rattle.scope.proofs.Scope.unlooped.Goals as goal
 
 pub returns : goal.returns

@@ -1,8 +1,6 @@
-use Prim.Native.Nat.{◌-◌}
 use mathlib.Core.Path.{◌≡◌, sym, ◌∙◌}
 use mathlib.Core.Bool.{true, false}
 use Rattle.scope.specs.Words.{used_scope, used_words, present_of, standing_in}
-use borrow.Author.Rules.{rules}
 use Rattle.scope.proofs.Scope.used.Goals as goal
 
 pub returns-then-present : goal.returns-then-present

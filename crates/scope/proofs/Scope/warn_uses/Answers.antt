@@ -1,7 +1,5 @@
-use Prim.Native.Nat.{◌-◌, ◌≤◌}
-use mathlib.Core.Path.{◌≡◌, refl, sym, ap, ◌∙◌}
-use lib.ListN.{length}
-use Rattle.scope.specs.Words.{Lines, uses_lines}
+use mathlib.Core.Path.{refl, sym, ap, ◌∙◌}
+use Rattle.scope.specs.Words.{Lines}
 use Rattle.scope.proofs.Steps.{uses_end, uses_next}
 use borrow.Author.Rules.{rules}
 use Rattle.scope.proofs.Scope.warn_uses.Goals as goal

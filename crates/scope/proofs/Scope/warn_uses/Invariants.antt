@@ -1,9 +1,7 @@
 use Prim.Native.Nat.{◌-◌, ◌≤◌}
-use mathlib.Core.Path.{◌≡◌, refl, sym, ap, ◌∙◌}
+use mathlib.Core.Path.{◌≡◌}
 use lib.ListN.{length}
-use Rattle.scope.specs.Words.{Lines, uses_lines}
-use Rattle.scope.proofs.Steps.{uses_end, uses_next}
-use borrow.Author.Rules.{rules}
+use Rattle.scope.specs.Words.{uses_lines}
 use Rattle.scope.proofs.Scope.warn_uses.Given as goal
 
 abbrev pub invariant-loop-k : goal.invariant-loop-k

@@ -1,7 +1,6 @@
 use mathlib.Core.Path.{◌≡◌}
 use Rattle.scope.specs.Words.{alike_at}
 use Rattle.scope.specs.declared.table.Like.TheVariants.{Name, Spot, Setting}
-use borrow.Author.Rules.{rules}
 use Rattle.scope.proofs.table.alike.Goals as goal
 
 pub returns-in-Name : goal.returns-in-Name

@@ -1,9 +1,8 @@
-use Prim.Native.Nat.{◌-◌, ◌≤◌}
 use native.Mathlib.Omega.{arith}
 use mathlib.Core.Path.{◌≡◌, refl, sym, ◌∙◌}
 use mathlib.Core.Bool.{true, false}
 use Rattle.scope.specs.State.{node_in}
-use Rattle.scope.specs.Words.{alike_at, find_in}
+use Rattle.scope.specs.Words.{alike_at}
 use Rattle.scope.proofs.Find.{find_hit, find_miss, find_end}
 use borrow.Author.Rules.{rules}
 use Rattle.scope.proofs.table.find.Goals as goal

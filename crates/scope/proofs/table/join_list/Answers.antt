@@ -1,6 +1,5 @@
 use native.Mathlib.Omega.{arith}
 use Rattle.scope.proofs.Steps.{join_there, join_new, join_full}
-use borrow.Author.Rules.{rules}
 use Rattle.scope.proofs.table.join_list.Goals as goal
 
 pub returns-then-p-b : goal.returns-then-p-b

@@ -1,4 +1,3 @@
-use borrow.Author.Rules.{rules}
 use Rattle.scope.proofs.table.same_name.Goals as goal
 
 pub returns : goal.returns

@@ -3,7 +3,6 @@ use Prim.Native.Nat.{ℕ}
 use Rattle.rules.specs.Names.{unused}
 use Rattle.scope.specs.State.{sort_of}
 use Rattle.scope.proofs.Alike.{sort_differs, sort_same}
-use borrow.Author.Rules.{rules}
 use Rattle.scope.proofs.table.same_setting.Goals as goal
 
 pub returns-then-code_of : goal.returns-then-code_of

@@ -1,6 +1,5 @@
 use mathlib.Core.Path.{sym, ◌∙◌}
 use Rattle.scope.proofs.Alike.{value_differs, begin_differs, end_decides}
-use borrow.Author.Rules.{rules}
 use Rattle.scope.proofs.table.same_spot.Goals as goal
 
 pub returns-then-value_at : goal.returns-then-value_at

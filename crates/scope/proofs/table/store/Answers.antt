@@ -1,6 +1,5 @@
 use mathlib.Core.Path.{sym}
 use lib.Seq.{set_out}
-use borrow.Author.Rules.{rules}
 use Rattle.scope.proofs.table.store.Goals as goal
 
 pub returns-else-k-w : goal.returns-else-k-w

@@ -1,6 +1,5 @@
 use native.Mathlib.Omega.{arith}
 use Rattle.scope.proofs.Steps.{warn_there, warn_more, warn_full}
-use borrow.Author.Rules.{rules}
 use Rattle.scope.proofs.table.warn.Goals as goal
 
 pub returns-then-p-e : goal.returns-then-p-e

@@ -1,5 +1,4 @@
 use borrow.Author.Rules.{rules}
-use Prim.Native.Nat.{◌-◌}
 use Rattle.tree.specs.Bytes.{begin_at}
 use Rattle.tree.proofs.bytes.begin_at.Goals as goal
 

@@ -1,5 +1,4 @@
 use borrow.Author.Rules.{rules}
-use Prim.Native.Nat.{◌-◌}
 use mathlib.Core.Path.{sym}
 use Rattle.tree.proofs.Past.{byte_past}
 use Rattle.tree.proofs.bytes.byte_at.Goals as goal

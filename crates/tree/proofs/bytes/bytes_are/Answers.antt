@@ -1,9 +1,8 @@
 use borrow.Author.Rules.{rules}
-use Prim.Native.Nat.{◌+◌, ◌-◌, ◌≤◌}
+use Prim.Native.Nat.{◌+◌, ◌-◌}
 use native.Mathlib.Omega.{arith}
 use mathlib.Core.Path.{◌≡◌, sym, ◌∙◌}
-use lib.ListN.{length, drop}
-use Rattle.tree.specs.Bytes.{bytes_from, same_bytes}
+use lib.ListN.{length}
 use Rattle.tree.proofs.TableLaws.{same_differ, same_next, same_end}
 use Rattle.tree.proofs.bytes.bytes_are.Goals as goal
 

@@ -1,10 +1,7 @@
-use borrow.Author.Rules.{rules}
 use Prim.Native.Nat.{◌+◌, ◌-◌, ◌≤◌}
-use native.Mathlib.Omega.{arith}
-use mathlib.Core.Path.{◌≡◌, sym, ◌∙◌}
+use mathlib.Core.Path.{◌≡◌}
 use lib.ListN.{length, drop}
 use Rattle.tree.specs.Bytes.{bytes_from, same_bytes}
-use Rattle.tree.proofs.TableLaws.{same_differ, same_next, same_end}
 use Rattle.tree.proofs.bytes.bytes_are.Given as goal
 
 abbrev pub invariant-loop-i : goal.invariant-loop-i

@@ -1,5 +1,4 @@
 use borrow.Author.Rules.{rules}
-use Prim.Native.Nat.{◌-◌}
 use Rattle.tree.specs.Bytes.{global_count}
 use Rattle.tree.proofs.bytes.global_count.Goals as goal
 

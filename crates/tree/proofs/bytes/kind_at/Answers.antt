@@ -1,5 +1,4 @@
 use borrow.Author.Rules.{rules}
-use Prim.Native.Nat.{◌-◌}
 use Rattle.tree.specs.Bytes.{kind_at}
 use Rattle.tree.proofs.bytes.kind_at.Goals as goal
 

@@ -1,5 +1,4 @@
 use borrow.Author.Rules.{rules}
-use Prim.Native.Nat.{◌-◌}
 use Rattle.tree.specs.Bytes.{last_at}
 use Rattle.tree.proofs.bytes.last_at.Goals as goal
 

@@ -1,5 +1,4 @@
 use borrow.Author.Rules.{rules}
-use Prim.Native.Nat.{◌-◌}
 use Rattle.tree.specs.Bytes.{node_count}
 use Rattle.tree.proofs.bytes.node_count.Goals as goal
 

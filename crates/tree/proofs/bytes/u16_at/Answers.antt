@@ -1,5 +1,4 @@
 use borrow.Author.Rules.{rules}
-use Prim.Native.Nat.{◌-◌}
 use mathlib.Core.Path.{sym}
 use Rattle.tree.specs.Bytes.{u16_at}
 use Rattle.tree.proofs.Past.{u16_past}

@@ -1,5 +1,4 @@
 use borrow.Author.Rules.{rules}
-use Prim.Native.Nat.{◌-◌}
 use Rattle.tree.specs.code.Offsets.{u64_at}
 use Rattle.tree.proofs.bytes.u64_at.Goals as goal
 

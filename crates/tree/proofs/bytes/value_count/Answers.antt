@@ -1,5 +1,4 @@
 use borrow.Author.Rules.{rules}
-use Prim.Native.Nat.{◌-◌}
 use Rattle.tree.specs.Bytes.{value_count}
 use Rattle.tree.proofs.bytes.value_count.Goals as goal
 

@@ -1,5 +1,4 @@
 use borrow.Author.Rules.{rules}
-use Prim.Native.Nat.{◌-◌}
 use Rattle.tree.specs.Bytes.{version_of}
 use Rattle.tree.proofs.bytes.version_of.Goals as goal
 

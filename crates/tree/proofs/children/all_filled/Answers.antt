@@ -1,14 +1,10 @@
 use borrow.Author.Rules.{rules}
-use borrow.Author.Tests.{not-true, not-false}
-use Prim.Native.Nat.{◌-◌, ◌≤◌}
 use native.Mathlib.Omega.{arith}
 use mathlib.Core.Path.{◌≡◌, sym, ◌∙◌}
-use mathlib.Core.Bool.{true}
-use lib.ListN.{get_or}
-use Rattle.tree.specs.code.Kids.{kids_from, kids_filled, filled}
+use Rattle.tree.specs.code.Kids.{kids_from, filled}
 use Rattle.tree.specs.code.Packed.{rows}
 use Rattle.tree.proofs.Kids.{filled_none, filled_more, filled_not}
-use Rattle.tree.proofs.Slots.{cut, cut_none, cut_more, cut_here, digit_small}
+use Rattle.tree.proofs.Slots.{cut_none, cut_more, cut_here, digit_small}
 use Rattle.tree.proofs.Filled.{filled_far, filled_rest}
 use Rattle.tree.proofs.children.all_filled.Goals as goal
 

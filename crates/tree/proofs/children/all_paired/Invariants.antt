@@ -1,9 +1,6 @@
-use borrow.Author.Rules.{rules}
 use Prim.Native.Nat.{◌-◌, ◌≤◌}
-use native.Mathlib.Omega.{arith}
-use mathlib.Core.Path.{◌≡◌, refl, sym, ◌∙◌}
+use mathlib.Core.Path.{◌≡◌}
 use Rattle.tree.specs.code.Kids.{kids_from, paired}
-use Rattle.tree.proofs.Kids.{pair_yes, pair_no, pair_end}
 use Rattle.tree.proofs.children.all_paired.Given as goal
 
 abbrev pub invariant-loop-c : goal.invariant-loop-c

@@ -1,12 +1,6 @@
-use borrow.Author.Rules.{rules}
-use borrow.Author.Tests.{not-true, not-false}
 use Prim.Native.Nat.{◌-◌}
-use native.Mathlib.Omega.{arith}
-use mathlib.Core.Path.{◌≡◌, refl, sym, ◌∙◌}
-use Rattle.tree.specs.Bytes.{kind_at, role_at}
-use Rattle.tree.specs.Children.{in_class, slot_of}
+use mathlib.Core.Path.{◌≡◌}
 use Rattle.tree.specs.code.Kids.{kids_from, kids_stand}
-use Rattle.tree.proofs.Kids.{stand_yes, stand_no, stand_end}
 use Rattle.tree.proofs.children.all_stand.Given as goal
 
 abbrev pub invariant-loop-c : goal.invariant-loop-c

@@ -1,9 +1,7 @@
-use borrow.Author.Rules.{rules}
-use Prim.Native.Nat.{◌+◌, ◌-◌}
+use Prim.Native.Nat.{◌+◌}
 use native.Mathlib.Omega.{arith}
-use mathlib.Core.Path.{◌≡◌, refl, sym, ◌∙◌}
+use mathlib.Core.Path.{refl, sym, ◌∙◌}
 use Rattle.tree.specs.Bytes.{size_at}
-use Rattle.tree.specs.code.Find.{child_of}
 use Rattle.tree.proofs.Seek.{seek_past, seek_here, seek_zero, seek_next}
 use Rattle.tree.proofs.children.child_of.Goals as goal
 

@@ -1,12 +1,7 @@
-use borrow.Author.Rules.{rules}
-use borrow.Author.Tests.{not-true, not-false}
 use Prim.Native.Nat.{◌-◌, ◌≤◌}
-use native.Mathlib.Omega.{arith}
-use mathlib.Core.Path.{◌≡◌, sym, ◌∙◌}
+use mathlib.Core.Path.{◌≡◌}
 use Rattle.tree.specs.Search.{first, lowest}
 use Rattle.tree.specs.code.Kids.{bad7}
-use Rattle.tree.proofs.Search.{first_start, first_here, first_next, first_end}
-use Rattle.tree.proofs.Six.{six_sized, six_ends, seven, seven_root}
 use Rattle.tree.proofs.children.first7.Given as goal
 
 abbrev pub invariant-loop-i : goal.invariant-loop-i

@@ -1,9 +1,6 @@
-use borrow.Author.Rules.{rules}
 use Prim.Native.Nat.{◌-◌}
-use native.Mathlib.Omega.{arith}
-use mathlib.Core.Path.{◌≡◌, refl, sym, ◌∙◌}
+use mathlib.Core.Path.{◌≡◌}
 use Rattle.tree.specs.code.Kids.{kids_from, kids_for_first}
-use Rattle.tree.proofs.Kids.{for_yes, for_no, for_end}
 use Rattle.tree.proofs.children.for_first.Given as goal
 
 abbrev pub invariant-loop-c : goal.invariant-loop-c

@@ -1,6 +1,4 @@
-use borrow.Author.Rules.{rules}
 use borrow.Author.Tests.{eq-eqb, ne_eqb}
-use Prim.Native.Nat.{◌-◌}
 use mathlib.Core.Path.{◌∙◌}
 use Rattle.tree.specs.code.Kids.{kids_in_order}
 use Rattle.tree.proofs.children.kids_ordered.Goals as goal

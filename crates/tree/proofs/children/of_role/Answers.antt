@@ -1,8 +1,5 @@
-use borrow.Author.Rules.{rules}
-use Prim.Native.Nat.{◌+◌, ◌-◌, ◌≤◌}
 use native.Mathlib.Omega.{arith}
-use mathlib.Core.Path.{◌≡◌, sym, ◌∙◌}
-use Rattle.tree.specs.code.Kids.{kids_from, of_role}
+use mathlib.Core.Path.{sym, ◌∙◌}
 use Rattle.tree.proofs.Kids.{role_yes, role_no, role_end}
 use Rattle.tree.proofs.children.of_role.Goals as goal
 use Rattle.tree.proofs.children.of_role.Goals.{then-role_at-r, else-role_at-r}

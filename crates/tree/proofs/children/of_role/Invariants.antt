@@ -1,10 +1,6 @@
-use borrow.Author.Rules.{rules}
 use Prim.Native.Nat.{◌+◌, ◌-◌, ◌≤◌}
-use native.Mathlib.Omega.{arith}
-use mathlib.Core.Path.{◌≡◌, sym, ◌∙◌}
-use mathlib.Core.Logic.{⊎_elim}
+use mathlib.Core.Path.{◌≡◌}
 use Rattle.tree.specs.code.Kids.{kids_from, of_role}
-use Rattle.tree.proofs.Kids.{role_yes, role_no, role_end}
 use Rattle.tree.proofs.children.of_role.Given as goal
 
 abbrev pub invariant-loop-c : goal.invariant-loop-c

@@ -1,6 +1,4 @@
-use borrow.Author.Rules.{rules}
 use borrow.Author.Tests.{eq-eqb, ne_eqb}
-use Prim.Native.Nat.{◌-◌}
 use Rattle.tree.specs.Children.{root_ok}
 use Rattle.tree.proofs.children.root_ok.Goals as goal
 

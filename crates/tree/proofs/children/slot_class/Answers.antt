@@ -1,4 +1,3 @@
-use borrow.Author.Rules.{rules}
 use mathlib.Core.Path.{◌∙◌}
 use Rattle.tree.proofs.Slots.{class_list, class_at}
 use Rattle.tree.proofs.children.slot_class.Goals as goal

@@ -1,6 +1,4 @@
-use borrow.Author.Rules.{rules}
 use borrow.Author.Tests.{eq-eqb, ne_eqb}
-use Prim.Native.Nat.{◌-◌}
 use Rattle.tree.proofs.children.stands.Goals as goal
 
 pub returns-then-c-eq7 : goal.returns-then-c-eq7

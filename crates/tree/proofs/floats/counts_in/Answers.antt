@@ -1,4 +1,3 @@
-use borrow.Author.Rules.{rules}
 use Rattle.tree.proofs.floats.counts_in.Goals as goal
 
 pub returns-in-Ordinary : goal.returns-in-Ordinary

@@ -1,4 +1,3 @@
-use borrow.Author.Rules.{rules}
 use native.Mathlib.Omega.{arith}
 use mathlib.Core.Path.{refl, sym, ◌∙◌}
 use Rattle.tree.proofs.WholeLaws.{pointed_fit, whole_small, whole_pointed, whole_large, whole_none}

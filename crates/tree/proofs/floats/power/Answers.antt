@@ -1,9 +1,8 @@
 use borrow.Author.Rules.{rules}
-use Prim.Native.Nat.{◌-◌, ◌^◌, ◌≤◌}
+use Prim.Native.Nat.{◌^◌, ◌≤◌}
 use native.Mathlib.Omega.{arith}
 use native.Mathlib.Numerals.{add-one}
 use mathlib.Core.Path.{◌≡◌}
-use Rattle.tree.specs.Table.{at}
 use native.Mathlib.Nat.{pow-suc, pow-le-pow_right}
 use lib.Dec.{lit<}
 use Rattle.tree.proofs.floats.power.Goals as goal

@@ -1,8 +1,5 @@
 use mathlib.Core.Path.{sym}
-use borrow.Author.Rules.{rules}
 use Rattle.tree.proofs.Past.{byte_past}
-use Rattle.tree.proofs.keys.entry_of.Reads as reads
-use Rattle.tree.proofs.bytes.widen.Reads as widen_reads
 use Rattle.tree.proofs.keys.entry_of.Goals as goal
 
 pub returns : goal.returns

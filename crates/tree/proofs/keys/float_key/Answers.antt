@@ -4,7 +4,6 @@ use Rattle.tree.specs.Keys.{whole}
 use Rattle.tree.specs.Table.{table_of}
 use Rattle.tree.specs.code.Numbers.{valued, meant, Fits}
 use Rattle.tree.proofs.KeyNumbers.{lead_none, lead_not, lead_some}
-use borrow.Author.Rules.{rules}
 use Rattle.tree.proofs.keys.float_key.Goals as goal
 
 pub returns-in_default : goal.returns-in_default

@@ -5,7 +5,6 @@ use Rattle.tree.specs.code.Numbers.{valued}
 use Rattle.tree.proofs.Fields.{offset_low}
 use Rattle.tree.proofs.TableLaws.{start_at}
 use Rattle.tree.proofs.KeyNumbers.{level_here, lead_here, lead_away}
-use borrow.Author.Rules.{rules}
 use Rattle.tree.proofs.keys.integer_number.Goals as goal
 
 pub value_side-s-requires : goal.value_side-s-requires

@@ -1,12 +1,10 @@
 -- The invariant: the table is right below v, and has each later number for itself.
 use borrow.Author.Rules.{rules}
-use Prim.Native.Nat.{ℕ, ◌-◌, ◌≤◌, ◌<◌}
 use native.Mathlib.Omega.{arith}
-use mathlib.Core.Path.{◌≡◌, ◌∙◌}
+use mathlib.Core.Path.{◌∙◌}
 use borrow.Author.Tests.{le-ltb}
-use lib.Dec.{ltb}
-use lib.ListN.{length, get_or, length-set}
-use Rattle.tree.specs.Bytes.{value_count, pick}
+use lib.ListN.{length-set}
+use Rattle.tree.specs.Bytes.{value_count}
 use Rattle.tree.specs.Table.{table_of}
 use Rattle.tree.specs.code.Numbers.{key_number}
 use Rattle.tree.proofs.KeyNumbers.{key_past_own}

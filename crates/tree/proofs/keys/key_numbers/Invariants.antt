@@ -1,15 +1,10 @@
-use borrow.Author.Rules.{rules}
 use Prim.Native.Nat.{ℕ, ◌-◌, ◌≤◌, ◌<◌}
-use native.Mathlib.Omega.{arith}
-use mathlib.Core.Path.{◌≡◌, ◌∙◌}
-use borrow.Author.Tests.{le-ltb}
+use mathlib.Core.Path.{◌≡◌}
 use lib.Dec.{ltb}
-use lib.ListN.{length, get_or, length-set}
-use Rattle.tree.specs.Bytes.{value_count, pick}
+use lib.ListN.{length, get_or}
+use Rattle.tree.specs.Bytes.{pick}
 use Rattle.tree.specs.Table.{table_of}
 use Rattle.tree.specs.code.Numbers.{key_number}
-use Rattle.tree.proofs.KeyNumbers.{key_past_own}
-use Rattle.tree.proofs.Tables.{filled_more, filled_all}
 use Rattle.tree.proofs.keys.key_numbers.Given as goal
 
 abbrev pub invariant-loop-v : goal.invariant-loop-v

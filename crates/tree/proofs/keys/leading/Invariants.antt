@@ -1,11 +1,7 @@
-use borrow.Author.Rules.{rules}
-use Prim.Native.Nat.{ℕ, ◌+◌, ◌*◌, ◌-◌, ◌/◌, ◌≤◌, ◌<◌, min}
-use native.Mathlib.Omega.{arith}
-use mathlib.Core.Path.{◌≡◌, sym, ◌∙◌}
-use lib.ListN.{get_or}
+use Prim.Native.Nat.{◌+◌, ◌-◌, ◌≤◌, ◌<◌}
+use mathlib.Core.Path.{◌≡◌}
 use Rattle.tree.specs.Bytes.{bytes_from}
 use Rattle.tree.specs.Values.{magnitude, onward}
-use Rattle.tree.proofs.TableLaws.{onward_grows, onward_next, onward_end}
 use Rattle.tree.proofs.keys.leading.Given as goal
 
 abbrev pub invariant-loop-i : goal.invariant-loop-i

@@ -1,7 +1,4 @@
-use borrow.Author.Rules.{rules}
 use Rattle.tree.proofs.KeyNumbers.{like_one, like_two, like_none}
-use Rattle.tree.proofs.keys.like.Reads as reads
-use Rattle.tree.proofs.keys.entry_of.Reads as entry_of_reads
 use Rattle.tree.proofs.keys.like.Goals as goal
 
 pub returns-then-a-b : goal.returns-then-a-b

@@ -1,8 +1,8 @@
 use borrow.Author.Rules.{rules}
-use Prim.Native.Nat.{ℕ, ◌-◌, ◌≤◌, ◌<◌}
+use Prim.Native.Nat.{ℕ}
 use native.Mathlib.Omega.{arith}
-use mathlib.Core.Path.{◌≡◌, ◌∙◌}
-use lib.ListN.{length, get_or, length-set, length-replicate}
+use mathlib.Core.Path.{◌∙◌}
+use lib.ListN.{length-set, length-replicate}
 use Rattle.tree.proofs.Tables.{table_more}
 use Rattle.tree.proofs.keys.own_numbers.Goals as goal
 

@@ -1,10 +1,9 @@
 -- The invariant: halving what is left finds what halving all finds.
-use borrow.Author.Rules.{rules}
-use Prim.Native.Nat.{ℕ, ◌+◌, ◌-◌, ◌/◌, ◌≤◌}
+use Prim.Native.Nat.{ℕ, ◌+◌, ◌-◌, ◌/◌}
 use native.Mathlib.Omega.{arith}
 use mathlib.Core.Path.{◌≡◌, refl, sym, ap, ◌∙◌}
 use Rattle.tree.specs.Table.{table_of}
-use Rattle.tree.specs.code.Halving.{halve, halved}
+use Rattle.tree.specs.code.Halving.{halve}
 use Rattle.tree.specs.code.Numbers.{short_of, valued}
 use Rattle.tree.proofs.Fields.{offset_low}
 use Rattle.tree.proofs.Halving.{halve_up, halve_down, halve_end}

@@ -1,14 +1,8 @@
-use borrow.Author.Rules.{rules}
-use Prim.Native.Nat.{ℕ, ◌+◌, ◌-◌, ◌/◌, ◌≤◌}
-use native.Mathlib.Omega.{arith}
-use mathlib.Core.Path.{◌≡◌, refl, sym, ap, ◌∙◌}
+use Prim.Native.Nat.{ℕ, ◌+◌, ◌≤◌}
+use mathlib.Core.Path.{◌≡◌}
 use Rattle.tree.specs.Table.{table_of}
 use Rattle.tree.specs.code.Halving.{halve, halved}
 use Rattle.tree.specs.code.Numbers.{short_of, valued}
-use Rattle.tree.proofs.Fields.{offset_low}
-use Rattle.tree.proofs.Halving.{halve_up, halve_down, halve_end}
-use Rattle.tree.proofs.TableLaws.{start_at}
-use Rattle.tree.proofs.KeyNumbers.{short_here}
 use Rattle.tree.proofs.keys.place.Given as goal
 
 abbrev pub invariant-loop-left : goal.invariant-loop-left

@@ -1,5 +1,3 @@
-use borrow.Author.Rules.{rules}
-use Prim.Native.Nat.{◌-◌}
 use Rattle.tree.proofs.lookup.globals_given.Goals as goal
 
 pub returns : goal.returns

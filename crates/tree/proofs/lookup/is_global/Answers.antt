@@ -1,9 +1,8 @@
 -- The invariant: what is left to look at decides.
 use borrow.Author.Rules.{rules}
-use Prim.Native.Nat.{◌+◌, ◌*◌, ◌-◌, ◌≤◌}
+use Prim.Native.Nat.{◌+◌, ◌*◌, ◌-◌}
 use native.Mathlib.Omega.{arith}
 use mathlib.Core.Path.{◌≡◌, sym, ◌∙◌}
-use Rattle.tree.specs.Table.{listed_from, is_global}
 use Rattle.tree.proofs.TableLaws.{listed_here, listed_next, listed_end}
 use Rattle.tree.proofs.lookup.is_global.Goals as goal
 

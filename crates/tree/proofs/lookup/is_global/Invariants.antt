@@ -1,9 +1,6 @@
-use borrow.Author.Rules.{rules}
 use Prim.Native.Nat.{◌+◌, ◌*◌, ◌-◌, ◌≤◌}
-use native.Mathlib.Omega.{arith}
-use mathlib.Core.Path.{◌≡◌, sym, ◌∙◌}
+use mathlib.Core.Path.{◌≡◌}
 use Rattle.tree.specs.Table.{listed_from, is_global}
-use Rattle.tree.proofs.TableLaws.{listed_here, listed_next, listed_end}
 use Rattle.tree.proofs.lookup.is_global.Given as goal
 
 abbrev pub invariant-loop-i : goal.invariant-loop-i

@@ -1,16 +1,9 @@
-use borrow.Author.Rules.{rules}
-use Prim.Native.Nat.{◌+◌, ◌*◌, ◌-◌, ◌≤◌, ◌<◌}
-use native.Mathlib.Omega.{arith}
-use mathlib.Core.Path.{◌≡◌, refl, sym, ◌∙◌}
-use mathlib.Core.Bool.{true, false}
+use Prim.Native.Nat.{◌+◌, ◌*◌, ◌-◌, ◌≤◌}
+use mathlib.Core.Path.{◌≡◌}
 use Rattle.tree.specs.Bytes.{node_count, value_count}
 use Rattle.tree.specs.Search.{first, lowest}
 use Rattle.tree.specs.Values.{offset}
-use Rattle.tree.specs.Table.{table_of, at, spells}
-use Rattle.tree.specs.code.Numbers.{number_named}
-use Rattle.tree.proofs.Search.{first_start, first_here, first_next, first_end}
-use Rattle.tree.proofs.ValueLaws.{offset_next, offset_start}
-use Rattle.tree.proofs.TableLaws.{at_table, below_found, below_none}
+use Rattle.tree.specs.Table.{table_of, spells}
 use Rattle.tree.proofs.lookup.number_of.Given as goal
 
 abbrev pub invariant-loop-v : goal.invariant-loop-v

@@ -1,13 +1,12 @@
 use Rattle.tree.proofs.Tables.{filled_more, filled_all, zeros_none}
 use Rattle.tree.proofs.ValueLaws.{offset_next, offset_start}
 use Rattle.tree.specs.Values.{offset}
-use Rattle.tree.specs.Bytes.{node_count, value_count, pick}
+use Rattle.tree.specs.Bytes.{node_count, value_count}
 use borrow.Author.Tests.{le-ltb}
-use lib.Dec.{ltb}
-use lib.ListN.{length, get_or, length-set, length-replicate}
+use lib.ListN.{length-set, length-replicate}
 use borrow.Author.Rules.{rules}
-use Prim.Native.Nat.{ℕ, ◌+◌, ◌*◌, ◌-◌, ◌≤◌, ◌<◌}
-use mathlib.Core.Path.{◌≡◌, refl, ◌∙◌}
+use Prim.Native.Nat.{ℕ}
+use mathlib.Core.Path.{refl, ◌∙◌}
 use native.Mathlib.Omega.{arith}
 use Rattle.tree.proofs.lookup.starts.Goals as goal
 

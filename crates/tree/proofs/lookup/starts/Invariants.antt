@@ -1,14 +1,9 @@
-use Rattle.tree.proofs.Tables.{filled_more, filled_all, zeros_none}
-use Rattle.tree.proofs.ValueLaws.{offset_next, offset_start}
 use Rattle.tree.specs.Values.{offset}
-use Rattle.tree.specs.Bytes.{node_count, value_count, pick}
-use borrow.Author.Tests.{le-ltb}
+use Rattle.tree.specs.Bytes.{node_count, pick}
 use lib.Dec.{ltb}
-use lib.ListN.{length, get_or, length-set, length-replicate}
-use borrow.Author.Rules.{rules}
+use lib.ListN.{length, get_or}
 use Prim.Native.Nat.{ℕ, ◌+◌, ◌*◌, ◌-◌, ◌≤◌, ◌<◌}
-use mathlib.Core.Path.{◌≡◌, refl, ◌∙◌}
-use native.Mathlib.Omega.{arith}
+use mathlib.Core.Path.{◌≡◌}
 use Rattle.tree.proofs.lookup.starts.Given as goal
 
 abbrev pub invariant-loop-v : goal.invariant-loop-v

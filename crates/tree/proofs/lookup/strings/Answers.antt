@@ -1,13 +1,11 @@
 -- The invariant: at is where value v starts, and the table is right below v.
 use borrow.Author.Rules.{rules}
-use Prim.Native.Nat.{ℕ, ◌+◌, ◌*◌, ◌-◌, ◌≤◌, ◌<◌}
 use native.Mathlib.Omega.{arith}
-use mathlib.Core.Path.{◌≡◌, refl, ◌∙◌}
+use mathlib.Core.Path.{refl, ◌∙◌}
 use mathlib.Core.Bool.{Bool, false}
-use lib.ListN.{length, get_or, length-set, length-replicate}
+use lib.ListN.{length-set, length-replicate}
 use Rattle.tree.specs.Bytes.{node_count}
-use Rattle.tree.specs.Values.{offset}
-use Rattle.tree.specs.Table.{table_of, at, a_string}
+use Rattle.tree.specs.Table.{table_of, a_string}
 use Rattle.tree.proofs.ValueLaws.{offset_next, offset_start}
 use Rattle.tree.proofs.Tables.{entry_more}
 use Rattle.tree.proofs.lookup.strings.Goals as goal

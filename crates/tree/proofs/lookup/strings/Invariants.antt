@@ -1,14 +1,10 @@
-use borrow.Author.Rules.{rules}
 use Prim.Native.Nat.{ℕ, ◌+◌, ◌*◌, ◌-◌, ◌≤◌, ◌<◌}
-use native.Mathlib.Omega.{arith}
-use mathlib.Core.Path.{◌≡◌, refl, ◌∙◌}
-use mathlib.Core.Bool.{Bool, false}
-use lib.ListN.{length, get_or, length-set, length-replicate}
+use mathlib.Core.Path.{◌≡◌}
+use mathlib.Core.Bool.{false}
+use lib.ListN.{length, get_or}
 use Rattle.tree.specs.Bytes.{node_count}
 use Rattle.tree.specs.Values.{offset}
-use Rattle.tree.specs.Table.{table_of, at, a_string}
-use Rattle.tree.proofs.ValueLaws.{offset_next, offset_start}
-use Rattle.tree.proofs.Tables.{entry_more}
+use Rattle.tree.specs.Table.{table_of, a_string}
 use Rattle.tree.proofs.lookup.strings.Given as goal
 
 abbrev pub invariant-loop-v : goal.invariant-loop-v

@@ -1,8 +1,6 @@
 use borrow.Author.Rules.{rules}
-use Prim.Native.Nat.{◌-◌, ◌≤◌}
 use native.Mathlib.Omega.{arith}
 use mathlib.Core.Path.{◌≡◌, sym, ◌∙◌}
-use Rattle.tree.specs.Search.{first, lowest}
 use Rattle.tree.specs.code.Stages.{bad6}
 use Rattle.tree.proofs.Search.{first_start, first_here, first_next, first_end}
 use Rattle.std.proofs.lemmas.Bool.{not_from_false, not_from_true}

@@ -1,10 +1,7 @@
-use borrow.Author.Rules.{rules}
 use Prim.Native.Nat.{◌-◌, ◌≤◌}
-use native.Mathlib.Omega.{arith}
-use mathlib.Core.Path.{◌≡◌, sym, ◌∙◌}
+use mathlib.Core.Path.{◌≡◌}
 use Rattle.tree.specs.Search.{first, lowest}
 use Rattle.tree.specs.code.Stages.{bad6}
-use Rattle.tree.proofs.Search.{first_start, first_here, first_next, first_end}
 use Rattle.tree.proofs.nodes.first6.Given as goal
 
 abbrev pub invariant-loop-i : goal.invariant-loop-i

@@ -1,11 +1,9 @@
-use borrow.Author.Rules.{rules}
 use borrow.Author.Tests.{lt-ltb, le-ltb}
-use Prim.Native.Nat.{ℕ, ◌-◌, ◌≤◌, ◌<◌}
+use Prim.Native.Nat.{ℕ}
 use native.Mathlib.Omega.{arith}
 use mathlib.Core.Path.{◌≡◌, sym, ◌∙◌}
 use mathlib.Core.Bool.{false}
-use lib.ListN.{length, get_or, length-set, length-replicate}
-use Rattle.tree.specs.Search.{first, lowest}
+use lib.ListN.{length-set, length-replicate}
 use Rattle.tree.specs.Nodes.{parent_of, depth_of, too_deep}
 use Rattle.tree.proofs.Search.{first_start, first_here, first_next, first_end}
 use Rattle.tree.proofs.Above.{parent_below, depth_zero, depth_next}

@@ -1,15 +1,8 @@
-use borrow.Author.Rules.{rules}
-use borrow.Author.Tests.{lt-ltb, le-ltb}
 use Prim.Native.Nat.{ℕ, ◌-◌, ◌≤◌, ◌<◌}
-use native.Mathlib.Omega.{arith}
-use mathlib.Core.Path.{◌≡◌, sym, ◌∙◌}
-use mathlib.Core.Bool.{false}
-use lib.ListN.{length, get_or, length-set, length-replicate}
+use mathlib.Core.Path.{◌≡◌}
+use lib.ListN.{length, get_or}
 use Rattle.tree.specs.Search.{first, lowest}
-use Rattle.tree.specs.Nodes.{parent_of, depth_of, too_deep}
-use Rattle.tree.proofs.Search.{first_start, first_here, first_next, first_end}
-use Rattle.tree.proofs.Above.{parent_below, depth_zero, depth_next}
-use Rattle.tree.proofs.Tables.{table_more}
+use Rattle.tree.specs.Nodes.{depth_of, too_deep}
 use Rattle.tree.proofs.nodes.first8.Given as goal
 
 abbrev pub invariant-loop-i : goal.invariant-loop-i

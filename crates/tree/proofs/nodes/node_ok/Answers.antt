@@ -1,6 +1,4 @@
-use borrow.Author.Rules.{rules}
-use borrow.Author.Tests.{le-leb, lt-leb, eq-eqb, ne_eqb, not-true, not-false}
-use Prim.Native.Nat.{◌-◌}
+use borrow.Author.Tests.{le-leb, lt-leb, eq-eqb, ne_eqb}
 use mathlib.Core.Path.{sym, ◌∙◌}
 use Rattle.tree.specs.code.Stages.{good6}
 use Rattle.tree.proofs.nodes.node_ok.Goals as goal

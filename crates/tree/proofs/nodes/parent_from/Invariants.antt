@@ -1,9 +1,6 @@
-use borrow.Author.Rules.{rules}
-use Prim.Native.Nat.{◌+◌, ◌-◌, ◌<◌}
-use native.Mathlib.Omega.{arith}
-use mathlib.Core.Path.{◌≡◌, sym, ◌∙◌}
+use Prim.Native.Nat.{◌+◌, ◌<◌}
+use mathlib.Core.Path.{◌≡◌}
 use Rattle.tree.specs.Nodes.{parent_of, parent_in}
-use Rattle.tree.proofs.Above.{parent_below, parent_zero, jump, found, at_zero, from_last}
 use Rattle.tree.proofs.nodes.parent_from.Given as goal
 
 abbrev pub invariant-loop-p : goal.invariant-loop-p

@@ -1,10 +1,8 @@
-use borrow.Author.Rules.{rules}
-use Prim.Native.Nat.{ℕ, ◌-◌, ◌≤◌}
+use Prim.Native.Nat.{ℕ}
 use native.Mathlib.Omega.{arith}
 use mathlib.Core.Path.{◌≡◌, ◌∙◌}
-use lib.ListN.{length, length-set, length-replicate}
+use lib.ListN.{length-set, length-replicate}
 use Rattle.tree.specs.Nodes.{parent_of}
-use Rattle.tree.specs.code.Stages.{Parents}
 use Rattle.tree.proofs.Tables.{table_more}
 use Rattle.tree.proofs.nodes.parents.Goals as goal
 

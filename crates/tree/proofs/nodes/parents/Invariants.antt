@@ -1,11 +1,7 @@
-use borrow.Author.Rules.{rules}
-use Prim.Native.Nat.{ℕ, ◌-◌, ◌≤◌}
-use native.Mathlib.Omega.{arith}
-use mathlib.Core.Path.{◌≡◌, ◌∙◌}
-use lib.ListN.{length, length-set, length-replicate}
-use Rattle.tree.specs.Nodes.{parent_of}
+use Prim.Native.Nat.{◌-◌, ◌≤◌}
+use mathlib.Core.Path.{◌≡◌}
+use lib.ListN.{length}
 use Rattle.tree.specs.code.Stages.{Parents}
-use Rattle.tree.proofs.Tables.{table_more}
 use Rattle.tree.proofs.nodes.parents.Given as goal
 
 abbrev pub invariant-loop-i : goal.invariant-loop-i

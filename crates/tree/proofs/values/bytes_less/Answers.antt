@@ -1,8 +1,7 @@
 use borrow.Author.Rules.{rules}
-use Prim.Native.Nat.{◌+◌, ◌-◌, ◌≤◌}
+use Prim.Native.Nat.{◌+◌, ◌-◌}
 use native.Mathlib.Omega.{arith}
 use mathlib.Core.Path.{◌≡◌, sym, ◌∙◌}
-use Rattle.tree.specs.code.Offsets.{bytes_less}
 use Rattle.tree.proofs.ValueLaws.{less_lt, less_gt, less_eq, less_end}
 use Rattle.tree.proofs.values.bytes_less.Goals as goal
 

@@ -1,9 +1,6 @@
-use borrow.Author.Rules.{rules}
 use Prim.Native.Nat.{◌+◌, ◌-◌, ◌≤◌}
-use native.Mathlib.Omega.{arith}
-use mathlib.Core.Path.{◌≡◌, sym, ◌∙◌}
+use mathlib.Core.Path.{◌≡◌}
 use Rattle.tree.specs.code.Offsets.{bytes_less}
-use Rattle.tree.proofs.ValueLaws.{less_lt, less_gt, less_eq, less_end}
 use Rattle.tree.proofs.values.bytes_less.Given as goal
 
 abbrev pub invariant-loop-i : goal.invariant-loop-i

@@ -1,14 +1,8 @@
-use borrow.Author.Rules.{rules}
-use borrow.Author.Tests.{eq-eqb, ne_eqb}
 use Prim.Native.Nat.{◌+◌, ◌*◌, ◌-◌, ◌≤◌}
-use native.Mathlib.Omega.{arith}
-use mathlib.Core.Path.{◌≡◌, refl, sym, ◌∙◌}
-use mathlib.Core.Bool.{true, false}
+use mathlib.Core.Path.{◌≡◌}
 use Rattle.tree.specs.Search.{first}
 use Rattle.tree.specs.Values.{offset}
 use Rattle.tree.specs.code.Stages.{names_of, not_name}
-use Rattle.tree.proofs.Search.{first_start, first_here, first_next, first_end}
-use Rattle.tree.proofs.ValueLaws.{offset_next, offset_start}
 use Rattle.tree.proofs.values.count_names.Given as goal
 
 abbrev pub invariant-loop-i : goal.invariant-loop-i

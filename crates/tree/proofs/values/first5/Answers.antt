@@ -1,11 +1,8 @@
 use borrow.Author.Rules.{rules}
-use borrow.Author.Tests.{not-true, not-false}
-use Prim.Native.Nat.{◌+◌, ◌*◌, ◌-◌, ◌≤◌, ◌<◌}
+use Prim.Native.Nat.{◌+◌, ◌-◌}
 use native.Mathlib.Omega.{arith}
 use mathlib.Core.Path.{◌≡◌, refl, sym, ◌∙◌}
-use mathlib.Core.Logic.{⊎_elim}
 use mathlib.Core.Bool.{true, false}
-use Rattle.tree.specs.Search.{first, lowest}
 use Rattle.tree.specs.Values.{offset}
 use Rattle.tree.specs.code.Stages.{bad5}
 use Rattle.tree.specs.code.Offsets.{formed_at, ordered_at}

@@ -1,10 +1,8 @@
 use borrow.Author.Rules.{rules}
-use Prim.Native.Nat.{◌+◌, ◌-◌, ◌≤◌, ◌<◌}
+use Prim.Native.Nat.{◌+◌, ◌-◌, ◌<◌}
 use native.Mathlib.Omega.{arith}
 use mathlib.Core.Path.{◌≡◌, sym, ◌∙◌}
-use mathlib.Core.Logic.{⊎_elim}
 use mathlib.Core.Bool.{false}
-use Rattle.tree.specs.Search.{first, lowest}
 use Rattle.tree.specs.code.Stages.{bad9, global_at, names_of}
 use Rattle.tree.proofs.Search.{first_start, first_here, first_next, first_end}
 use Rattle.tree.proofs.Names.{nine_none, nine_low, nine_ok, nine_first}

@@ -1,13 +1,7 @@
-use borrow.Author.Rules.{rules}
-use Prim.Native.Nat.{◌+◌, ◌-◌, ◌≤◌, ◌<◌}
-use native.Mathlib.Omega.{arith}
-use mathlib.Core.Path.{◌≡◌, sym, ◌∙◌}
-use mathlib.Core.Logic.{⊎_elim}
-use mathlib.Core.Bool.{false}
+use Prim.Native.Nat.{◌-◌, ◌≤◌, ◌<◌}
+use mathlib.Core.Path.{◌≡◌}
 use Rattle.tree.specs.Search.{first, lowest}
-use Rattle.tree.specs.code.Stages.{bad9, global_at, names_of}
-use Rattle.tree.proofs.Search.{first_start, first_here, first_next, first_end}
-use Rattle.tree.proofs.Names.{nine_none, nine_low, nine_ok, nine_first}
+use Rattle.tree.specs.code.Stages.{bad9, global_at}
 use Rattle.tree.proofs.values.first9.Given as goal
 
 abbrev pub invariant-loop-i : goal.invariant-loop-i

@@ -1,6 +1,4 @@
-use borrow.Author.Rules.{rules}
 use borrow.Author.Tests.{le-leb, lt-leb, eq-eqb, ne_eqb}
-use Prim.Native.Nat.{◌-◌}
 use Rattle.tree.proofs.values.float_ok.Goals as goal
 
 pub returns-then-u16_at-ne8 : goal.returns-then-u16_at-ne8

@@ -1,6 +1,4 @@
-use borrow.Author.Rules.{rules}
 use borrow.Author.Tests.{lt-ltb, le-ltb}
-use Prim.Native.Nat.{◌-◌}
 use mathlib.Core.Path.{◌∙◌}
 use Rattle.tree.specs.code.Offsets.{ordered_at}
 use Rattle.tree.proofs.values.in_order.Goals as goal

@@ -1,10 +1,7 @@
 -- The invariant: at is where value i starts.
 use borrow.Author.Rules.{rules}
-use Prim.Native.Nat.{◌+◌, ◌*◌, ◌-◌, ◌≤◌}
 use native.Mathlib.Omega.{arith}
 use mathlib.Core.Path.{◌≡◌, refl, sym}
-use Rattle.tree.specs.Values.{offset}
-use Rattle.tree.specs.Table.{at}
 use Rattle.tree.proofs.ValueLaws.{offset_next, offset_start}
 use Rattle.tree.proofs.values.offset_of.Goals as goal
 

@@ -1,10 +1,6 @@
-use borrow.Author.Rules.{rules}
 use Prim.Native.Nat.{◌+◌, ◌*◌, ◌-◌, ◌≤◌}
-use native.Mathlib.Omega.{arith}
-use mathlib.Core.Path.{◌≡◌, refl, sym}
+use mathlib.Core.Path.{◌≡◌}
 use Rattle.tree.specs.Values.{offset}
-use Rattle.tree.specs.Table.{at}
-use Rattle.tree.proofs.ValueLaws.{offset_next, offset_start}
 use Rattle.tree.proofs.values.offset_of.Given as goal
 
 abbrev pub invariant-loop-i : goal.invariant-loop-i
