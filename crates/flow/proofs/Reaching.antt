@@ -13,7 +13,6 @@ use Rattle.tree.specs.code.Find.{child_of}
 use Rattle.tree.proofs.Laws.{ended, forest_none, forest_node}
 use Rattle.tree.proofs.Find.{child_ge, child_part}
 use Rattle.rules.specs.Record.{Rec, listed, plainly}
-use Rattle.rules.specs.Visit.{look}
 use Rattle.rules.specs.Order.{fail_called}
 use Rattle.rules.specs.Flow.{Reached, in_list, one_by_one, only, both, on_through, stopping, after_stop, reached, reached_part}
 use Rattle.answer.specs.declared.Sheet.{Sheet}

@@ -8,7 +8,7 @@ use mathlib.Core.Bool.{Bool, true, false, cond, ◌||◌}
 use lib.Dec.{eqb, ltb}
 use borrow.Author.Tests.{ne_eqb, lt-ltb, le-ltb, eqb-true}
 use Rattle.tree.specs.Bytes.{kind_at, size_at, value_at, pick}
-use Rattle.tree.specs.Forest.{Spot, Head, Forest, none, node, node_spot, node_head, forest_of}
+use Rattle.tree.specs.Forest.{Head, Forest, none, node, node_spot, node_head, forest_of}
 use Rattle.tree.specs.code.Part.{Part, Subtree}
 use Rattle.tree.specs.code.Find.{child_of}
 use Rattle.tree.proofs.Laws.{sized, ended, first, kids, rest, forest_none, forest_node}

@@ -11,7 +11,7 @@ use Rattle.tree.specs.code.Part.{Part, Subtree}
 use Rattle.tree.specs.code.Find.{child_of}
 use Rattle.tree.proofs.Laws.{later, forest_none, forest_node}
 use Rattle.rules.specs.Record.{Rec, listed, plainly}
-use Rattle.rules.specs.Visit.{look, has}
+use Rattle.rules.specs.Visit.{has}
 use Rattle.rules.specs.Flow.{tail, tail_part, redundant_part, redundant_walk, below_root}
 use Rattle.answer.specs.Page.{Page, write, writes}
 use Rattle.answer.proofs.Flat.{past, next}

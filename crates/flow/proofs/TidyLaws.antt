@@ -4,7 +4,7 @@ use native.Mathlib.Omega.{arith}
 use native.Mathlib.Decide.{ℕ_discrete}
 use mathlib.Core.Path.{◌≡◌, refl, sym, ap, ◌∙◌}
 use mathlib.Core.Bool.{Bool, true, false, ◌||◌, not}
-use mathlib.Core.List.{List, [], ◌∷◌}
+use mathlib.Core.List.{List, []}
 use lib.Dec.{T, eqb, eqb→eq}
 use borrow.Author.Tests.{eq-eqb, ne_eqb}
 use Rattle.tree.specs.Bytes.{node_count, kind_at, size_at}
@@ -19,7 +19,7 @@ use Rattle.tree.proofs.Fits.{kids_fitting, part_fits}
 use Rattle.tree.proofs.Roles.{kids_part, kid_many, kid_there}
 use Rattle.tree.proofs.Whole.{sound, whole, whole_part}
 use Rattle.rules.specs.Record.{listed}
-use Rattle.rules.specs.Visit.{look, has}
+use Rattle.rules.specs.Visit.{look}
 use Rattle.rules.specs.Flow.{Return, Which, everything, the_rest, wanted, returns_part, returns}
 use Rattle.rules.proofs.Look.{row}
 use Rattle.flow.specs.Returns.{Shaped, Tidy, Checked}

@@ -1,21 +1,20 @@
 -- 14: what each step and return of the walk shows. Assumes nothing.
-use Prim.Native.Nat.{ℕ, zero, suc, ◌+◌, ◌-◌, ◌≤◌, ◌<◌}
+use Prim.Native.Nat.{ℕ, suc, ◌+◌, ◌≤◌, ◌<◌}
 use native.Mathlib.Omega.{arith}
 use native.Mathlib.Decide.{dec_lt, ℕ_discrete}
-use mathlib.Core.Path.{◌≡◌, refl, sym, ap, ◌∙◌}
-use mathlib.Core.List.{List, [], ◌∷◌, ◌++◌, append_assoc}
+use mathlib.Core.Path.{◌≡◌, refl, sym, ◌∙◌}
+use mathlib.Core.List.{List, [], ◌++◌, append_assoc}
 use mathlib.Core.Bool.{Bool, true, false, ◌&&◌, ◌||◌}
 use lib.Dec.{eqb, leb}
-use lib.ListN.{length, get_or}
 use borrow.Author.Tests.{eq-eqb, ne_eqb, le-leb, lt-leb}
 use Rattle.tree.specs.Bytes.{kind_at, role_at, size_at, value_at}
-use Rattle.tree.specs.Forest.{Spot, Head, Forest, none, node, node_spot, node_head, forest_of}
+use Rattle.tree.specs.Forest.{Head, Forest, none, node, node_spot, node_head, forest_of}
 use Rattle.tree.specs.code.Part.{Part, Subtree}
 use Rattle.tree.specs.code.Find.{child_of, from_role}
 use Rattle.tree.proofs.Search.{clash}
-use Rattle.tree.proofs.Laws.{sized, ended, kids, rest, forest_none}
-use Rattle.tree.proofs.Find.{child_node, child_none, child_role, child_ge, child_part}
-use Rattle.rules.specs.Record.{Rec, valued_at, listed}
+use Rattle.tree.proofs.Laws.{sized, ended, kids, rest}
+use Rattle.tree.proofs.Find.{child_node, child_none, child_role, child_part}
+use Rattle.rules.specs.Record.{Rec, valued_at}
 use Rattle.rules.specs.Visit.{head_at, spot_at, each, kind_among, under, how_many}
 use Rattle.rules.specs.Incompatible.{identifier, type_check, check_at}
 use Rattle.answer.specs.Page.{Page, write, writes}

@@ -1,24 +1,23 @@
 -- 15: what each step and return of the walk shows of the deeds. Assumes nothing.
-use Prim.Native.Nat.{ℕ, zero, suc, ◌+◌, ◌-◌, ◌≤◌, ◌<◌}
+use Prim.Native.Nat.{ℕ, ◌+◌, ◌≤◌, ◌<◌}
 use native.Mathlib.Omega.{arith}
 use native.Mathlib.Decide.{dec_lt, ℕ_discrete}
 use mathlib.Core.Path.{◌≡◌, refl, sym, ap, subst, ◌∙◌}
 use mathlib.Core.List.{List, [], ◌∷◌, ◌++◌, append-nil, append_assoc}
-use mathlib.Core.Bool.{Bool, true, false, cond, ◌&&◌, ◌||◌}
+use mathlib.Core.Bool.{Bool, true, false, ◌&&◌, ◌||◌}
 use lib.Dec.{T, eqb}
-use lib.ListN.{length}
 use borrow.Author.Tests.{eq-eqb, ne_eqb}
 use Rattle.tree.specs.Bytes.{kind_at, role_at, size_at, value_at, pick}
 use Rattle.tree.specs.Nodes.{holds_name}
-use Rattle.tree.specs.Forest.{Spot, Head, Forest, none, node, node_spot, node_head, forest_of}
-use Rattle.tree.specs.code.Part.{Part, Subtree}
+use Rattle.tree.specs.Forest.{Head, Forest, node, node_spot, node_head, forest_of}
+use Rattle.tree.specs.code.Part.{Part}
 use Rattle.tree.specs.code.Find.{child_of}
 use Rattle.tree.proofs.Search.{clash}
 use Rattle.tree.proofs.Laws.{later, sized, ended, kids, rest}
 use Rattle.rules.specs.Record.{listed}
-use Rattle.rules.specs.Visit.{look, spot_at, kind_among}
-use Rattle.rules.specs.Order.{Bind, one, several, nothing, bindings, bind_of}
-use Rattle.rules.specs.Incompatible.{identifier, Deed, defines, repeats, deed_part, defined_names, self_set, Top, assigning, modifying, defining, loading, holding, aside, tops, top_part, deeds}
+use Rattle.rules.specs.Visit.{look, kind_among}
+use Rattle.rules.specs.Order.{nothing, bindings, bind_of}
+use Rattle.rules.specs.Incompatible.{Deed, defines, repeats, deed_part, defined_names, self_set, Top, assigning, modifying, defining, loading, holding, aside, tops, top_part, deeds}
 use Rattle.rules.proofs.Look.{look_all}
 use Rattle.answer.proofs.Flat.{past, over, split}
 use Rattle.incompatible.specs.declared.assigns.Defined.{Defined}

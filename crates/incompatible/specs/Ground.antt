@@ -1,9 +1,8 @@
 -- What private functions ask of the nodes that they are given. Assumes nothing.
 -- In a valid file every node has it: proofs/Valid.
-use Rattle.std.specs.Prelude.{ℕ, ◌+◌, ◌≤◌, ◌<◌, List, T}
-use Rattle.tree.specs.Bytes.{kind_at, size_at, value_at}
+use Rattle.std.specs.Prelude.{ℕ, ◌<◌, List, T}
+use Rattle.tree.specs.Bytes.{kind_at, value_at}
 use Rattle.tree.specs.Nodes.{holds_name}
-use Rattle.tree.specs.code.Part.{Part}
 
 -- every node below n that holds a name holds one of the first 512 values
 pub record Low (t : List ℕ) (n : ℕ) : Type 0 where

@@ -1,6 +1,6 @@
 -- What private functions promise: 01's list of first definitions as two tables by value number. Assumes nothing.
 -- Nobody has to believe them: proofs/Told shows that what is told by tables is what the rule judges.
-use Rattle.std.specs.Prelude.{ℕ, zero, suc, ◌+◌, ◌≡◌, List, [], ◌∷◌, ◌++◌, Bool, true, false, ◌&&◌, ◌||◌, eqb, get_or}
+use Rattle.std.specs.Prelude.{ℕ, zero, suc, ◌≡◌, List, [], ◌∷◌, ◌++◌, Bool, true, false, ◌&&◌, ◌||◌, eqb, get_or}
 use Rattle.std.proofs.Math.Option.{Option, none, some}
 use Rattle.tree.specs.Bytes.{kind_at}
 use Rattle.tree.specs.Forest.{Head, Forest, node_head}

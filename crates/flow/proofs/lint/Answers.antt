@@ -1,8 +1,6 @@
-use Prim.Native.Nat.{◌-◌}
 use Rattle.answer.specs.Page.{page}
 use Rattle.flow.proofs.TidyLaws.{tidy_valid, root_whole}
 use Rattle.flow.proofs.ListIs.{walked_five}
-use borrow.Author.Rules.{rules}
 use Rattle.flow.proofs.lint.Goals as goal
 
 pub stmt-a-requires : goal.stmt-a-requires

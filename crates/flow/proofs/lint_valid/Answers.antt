@@ -9,7 +9,6 @@ use Rattle.rules.specs.Flow.{flow_list}
 use Rattle.answer.specs.Page.{writes}
 use Rattle.answer.proofs.Whole.{no_front, short_done, listed_done}
 use Rattle.flow.proofs.ListIs.{list_is, list_few}
-use borrow.Author.Rules.{rules}
 use Rattle.flow.proofs.lint_valid.Goals as goal
 
 pub returns-then-out-records : goal.returns-then-out-records

@@ -3,7 +3,6 @@ use Rattle.rules.specs.declared.Outcome.TheVariants.{Refused}
 use Rattle.rules.specs.Incompatible.{incompatible_list}
 use Rattle.answer.specs.Refuse.{refusal_of}
 use Rattle.answer.proofs.Whole.{unfit_done}
-use borrow.Author.Rules.{rules}
 use Rattle.incompatible.proofs.incompatible.Goals as goal
 
 pub returns-in_default : goal.returns-in_default

@@ -1,8 +1,5 @@
-use native.Mathlib.Omega.{arith}
 use Rattle.answer.specs.Page.{page}
 use Rattle.answer.proofs.Flat.{walked_both}
-use borrow.Author.Rules.{rules}
-use Rattle.incompatible.proofs.lint.Reads as reads
 use Rattle.incompatible.proofs.lint.Goals as goal
 
 pub bad_type_equality-r-requires : goal.bad_type_equality-r-requires

@@ -10,7 +10,6 @@ use Rattle.rules.specs.Incompatible.{incompatible_list}
 use Rattle.answer.specs.Page.{writes}
 use Rattle.answer.proofs.Whole.{no_front, short_done, listed_done}
 use Rattle.incompatible.proofs.Valid.{low_names, list_is, list_few}
-use borrow.Author.Rules.{rules}
 use Rattle.incompatible.proofs.lint_valid.Goals as goal
 
 pub lint-c-requires : goal.lint-c-requires

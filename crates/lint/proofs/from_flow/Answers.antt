@@ -3,7 +3,6 @@ use mathlib.Core.Path.{◌∙◌}
 use Rattle.rules.specs.Flow.{flow_list}
 use Rattle.lint.specs.Links.{after_flow}
 use Rattle.lint.proofs.Link.{about_list, length_after_names, few, second_fits, both_done}
-use borrow.Author.Rules.{rules}
 use Rattle.lint.proofs.from_flow.Goals as goal
 
 pub lint_valid-a-requires : goal.lint_valid-a-requires

@@ -3,7 +3,6 @@ use mathlib.Core.Path.{◌∙◌}
 use Rattle.rules.specs.Incompatible.{incompatible_list}
 use Rattle.rules.specs.Dubious.{dubious_list}
 use Rattle.lint.proofs.Link.{about_list, length_after_flow, length_after_names, few, both_done}
-use borrow.Author.Rules.{rules}
 use Rattle.lint.proofs.from_incompatible.Goals as goal
 
 pub lint_valid-a-requires : goal.lint_valid-a-requires

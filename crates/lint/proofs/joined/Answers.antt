@@ -10,7 +10,6 @@ use Rattle.rules.specs.Joined.{lint_list, no_tally}
 use Rattle.lint.specs.Links.{refusal_with, after_names}
 use Rattle.lint.proofs.Link.{about_list, few}
 use Rattle.lint.proofs.First.{part_length, holds, about_names, never_listed, refused_done, counted, end_here, rest_fits, listed_done}
-use borrow.Author.Rules.{rules}
 use Rattle.lint.proofs.joined.Goals as goal
 
 pub slice_bounds-lint_valid-end-2 : goal.slice_bounds-lint_valid-end-2

@@ -1,5 +1,4 @@
 use native.Mathlib.Omega.{arith}
-use borrow.Author.Rules.{rules}
 use Rattle.lint.proofs.refusal_with.Goals as goal
 
 pub overflow_add-result : goal.overflow_add-result

@@ -5,7 +5,6 @@ use Rattle.rules.specs.Incompatible.{incompatible_list}
 use Rattle.rules.specs.Dubious.{dubious_list}
 use Rattle.answer.proofs.Whole.{no_front}
 use Rattle.lint.proofs.Link.{about_list, length_after_flow, length_after_names, few}
-use borrow.Author.Rules.{rules}
 use Rattle.lint.proofs.rest_needed.Goals as goal
 
 pub lint_valid-a-requires : goal.lint_valid-a-requires

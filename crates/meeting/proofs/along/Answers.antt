@@ -1,10 +1,7 @@
 -- `along` meets its contract. Assumes nothing.
 use Rattle.meeting.proofs.Steps.{along_none, along_end, along_next}
-use Prim.Native.Nat.{◌<◌}
 use native.Mathlib.Omega.{arith}
-use mathlib.Core.Path.{◌≡◌, refl, sym, ◌∙◌}
-use lib.ListN.{length}
-use Rattle.meeting.specs.Words.{along}
+use mathlib.Core.Path.{refl, sym, ◌∙◌}
 use Rattle.meeting.proofs.along.Goals as goal
 
 pub loop-left-init : goal.loop-left-init

@@ -1,7 +1,5 @@
-use Rattle.meeting.proofs.Steps.{along_none, along_end, along_next}
 use Prim.Native.Nat.{◌<◌}
-use native.Mathlib.Omega.{arith}
-use mathlib.Core.Path.{◌≡◌, refl, sym, ◌∙◌}
+use mathlib.Core.Path.{◌≡◌}
 use lib.ListN.{length}
 use Rattle.meeting.specs.Words.{along}
 use Rattle.meeting.proofs.along.Given as goal

@@ -2,7 +2,6 @@
 use native.Mathlib.Omega.{arith}
 use native.Mathlib.Nat.{mod-lt}
 use Rattle.meeting.specs.Words.{bucket_of}
-use borrow.Author.Rules.{rules}
 use Rattle.meeting.proofs.bucket.Goals as goal
 
 pub returns : goal.returns

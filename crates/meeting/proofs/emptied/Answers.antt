@@ -1,6 +1,5 @@
 -- `emptied` meets its contract. Assumes nothing.
 use Rattle.meeting.proofs.Steps.{empty_next}
-use Prim.Native.Nat.{◌-◌, ◌≤◌}
 use native.Mathlib.Omega.{arith}
 use mathlib.Core.Path.{◌≡◌, refl, ap, ◌∙◌}
 use lib.ListN.{length, length-set}

@@ -1,8 +1,6 @@
-use Rattle.meeting.proofs.Steps.{empty_next}
 use Prim.Native.Nat.{◌-◌, ◌≤◌}
-use native.Mathlib.Omega.{arith}
-use mathlib.Core.Path.{◌≡◌, refl, ap, ◌∙◌}
-use lib.ListN.{length, length-set}
+use mathlib.Core.Path.{◌≡◌}
+use lib.ListN.{length}
 use Rattle.meeting.specs.Words.{emptied}
 use Rattle.meeting.proofs.emptied.Given as goal
 

@@ -5,7 +5,6 @@ use mathlib.Core.List.{List}
 use Rattle.tree.specs.Forest.{forest_of}
 use Rattle.meeting.specs.Asked.{asked}
 use Rattle.meeting.specs.Words.{linked, meets, first_words}
-use borrow.Author.Rules.{rules}
 use Rattle.meeting.proofs.first_met.Goals as goal
 
 pub returns : goal.returns

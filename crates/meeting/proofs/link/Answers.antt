@@ -1,6 +1,5 @@
 -- `link` meets its contract. Assumes nothing.
 use Rattle.meeting.proofs.Steps.{link_laid}
-use borrow.Author.Rules.{rules}
 use Rattle.meeting.proofs.link.Goals as goal
 
 pub returns : goal.returns

@@ -1,9 +1,7 @@
 -- `linked` meets its contract. Assumes nothing.
 use Rattle.meeting.proofs.Steps.{link_next}
-use Prim.Native.Nat.{◌-◌, ◌≤◌}
 use native.Mathlib.Omega.{arith}
 use mathlib.Core.Path.{◌≡◌, refl, ◌∙◌}
-use lib.ListN.{length}
 use Rattle.meeting.specs.Words.{linked}
 use Rattle.meeting.proofs.linked.Goals as goal
 

@@ -1,7 +1,5 @@
-use Rattle.meeting.proofs.Steps.{link_next}
 use Prim.Native.Nat.{◌-◌, ◌≤◌}
-use native.Mathlib.Omega.{arith}
-use mathlib.Core.Path.{◌≡◌, refl, ◌∙◌}
+use mathlib.Core.Path.{◌≡◌}
 use lib.ListN.{length}
 use Rattle.meeting.specs.Words.{linked}
 use Rattle.meeting.proofs.linked.Given as goal

@@ -1,7 +1,6 @@
 -- `meet` meets its contract. Assumes nothing.
 use mathlib.Core.Path.{◌∙◌}
 use Rattle.meeting.specs.Words.{meet_words}
-use borrow.Author.Rules.{rules}
 use Rattle.meeting.proofs.meet.Goals as goal
 
 pub returns : goal.returns

@@ -1,6 +1,5 @@
 -- `touch` meets its contract. Assumes nothing.
 use Rattle.meeting.proofs.Steps.{touch_met, touch_takes, touch_unlike}
-use borrow.Author.Rules.{rules}
 use Rattle.meeting.proofs.touch.Goals as goal
 
 pub returns-then-word_at-ne0 : goal.returns-then-word_at-ne0

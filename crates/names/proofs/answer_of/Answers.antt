@@ -1,5 +1,4 @@
 use Rattle.names.proofs.Telling.{short_of, listed_of}
-use borrow.Author.Rules.{rules}
 use Rattle.names.proofs.answer_of.Goals as goal
 
 pub returns-then-out-n : goal.returns-then-out-n

@@ -1,10 +1,9 @@
 use native.Mathlib.Omega.{arith}
-use Prim.Native.Nat.{ℕ, ◌-◌, ◌≤◌}
+use Prim.Native.Nat.{ℕ}
 use mathlib.Core.List.{List}
-use mathlib.Core.Path.{◌≡◌, refl, sym, ap, ◌∙◌}
-use lib.ListN.{length, length-set, set}
-use Rattle.names.proofs.Telling.{zeros, zeros_none, zeros_next, zeros_all}
-use borrow.Author.Rules.{rules}
+use mathlib.Core.Path.{refl, sym, ap, ◌∙◌}
+use lib.ListN.{length-set, set}
+use Rattle.names.proofs.Telling.{zeros_none, zeros_next, zeros_all}
 use Rattle.names.proofs.clear.Goals as goal
 
 pub loop-k-init : goal.loop-k-init

@@ -1,10 +1,7 @@
-use native.Mathlib.Omega.{arith}
-use Prim.Native.Nat.{ℕ, ◌-◌, ◌≤◌}
-use mathlib.Core.List.{List}
-use mathlib.Core.Path.{◌≡◌, refl, sym, ap, ◌∙◌}
-use lib.ListN.{length, length-set, set}
-use Rattle.names.proofs.Telling.{zeros, zeros_none, zeros_next, zeros_all}
-use borrow.Author.Rules.{rules}
+use Prim.Native.Nat.{◌-◌, ◌≤◌}
+use mathlib.Core.Path.{◌≡◌}
+use lib.ListN.{length}
+use Rattle.names.proofs.Telling.{zeros}
 use Rattle.names.proofs.clear.Given as goal
 
 abbrev pub invariant-loop-k : goal.invariant-loop-k

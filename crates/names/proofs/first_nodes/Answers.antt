@@ -1,7 +1,6 @@
 use borrow.Author.Tests.{le-ltb}
 use Rattle.names.specs.Records.{met_words}
 use Rattle.names.proofs.FirstMet.{met_back}
-use borrow.Author.Rules.{rules}
 use Rattle.names.proofs.first_nodes.Goals as goal
 
 pub returns-then-r-gt0 : goal.returns-then-r-gt0

@@ -4,7 +4,6 @@ use lib.ListN.{length, replicate}
 use Rattle.rules.specs.Outcome.{work_words}
 use Rattle.names.proofs.FirstMet.{walk_records}
 use mathlib.Core.Path.{◌∙◌, ap}
-use borrow.Author.Rules.{rules}
 use Rattle.names.proofs.lint.Goals as goal
 
 pub first_nodes-requires : goal.first_nodes-requires

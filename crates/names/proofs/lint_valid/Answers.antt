@@ -5,7 +5,6 @@ use Rattle.rules.specs.Names.{names_list}
 use Rattle.rules.specs.Outcome.{work_words}
 use Rattle.names.proofs.Whole.{file_ready, file_names}
 use Rattle.names.proofs.Telling.{unlent, lent, zeros_front}
-use borrow.Author.Rules.{rules}
 use Rattle.names.proofs.lint_valid.Goals as goal
 
 pub returns-then-work-lt-WORK_WORDS : goal.returns-then-work-lt-WORK_WORDS

@@ -3,7 +3,6 @@ use Rattle.rules.specs.Names.{names_list}
 use Rattle.rules.specs.declared.Outcome.TheVariants.{Refused}
 use Rattle.answer.specs.Refuse.{refusal_of}
 use Rattle.answer.proofs.Whole.{unfit_with_work}
-use borrow.Author.Rules.{rules}
 use Rattle.names.proofs.names.Goals as goal
 
 pub returns-in_default : goal.returns-in_default

@@ -1,10 +1,7 @@
 use native.Mathlib.Omega.{arith}
-use Prim.Native.Nat.{◌-◌, ◌≤◌}
 use mathlib.Core.Path.{◌≡◌, refl, sym, ap, ◌∙◌}
-use lib.ListN.{length}
-use Rattle.answer.specs.Page.{page, writes}
+use Rattle.answer.specs.Page.{writes}
 use Rattle.answer.proofs.Laws.{writes_none}
-use Rattle.names.specs.Records.{records_of}
 use Rattle.names.proofs.Telling.{records_none, records_next}
 use Rattle.names.proofs.records.Goals as goal
 

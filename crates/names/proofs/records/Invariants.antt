@@ -1,11 +1,8 @@
-use native.Mathlib.Omega.{arith}
 use Prim.Native.Nat.{◌-◌, ◌≤◌}
-use mathlib.Core.Path.{◌≡◌, refl, sym, ap, ◌∙◌}
+use mathlib.Core.Path.{◌≡◌}
 use lib.ListN.{length}
 use Rattle.answer.specs.Page.{page, writes}
-use Rattle.answer.proofs.Laws.{writes_none}
 use Rattle.names.specs.Records.{records_of}
-use Rattle.names.proofs.Telling.{records_none, records_next}
 use Rattle.names.proofs.records.Given as goal
 
 abbrev pub invariant-loop-k : goal.invariant-loop-k

@@ -2,7 +2,6 @@ use mathlib.Core.Path.{sym}
 use Rattle.tree.specs.Forest.{node_head}
 use Rattle.answer.specs.Note.{rec_of, span_of, value_of, node_of}
 use Rattle.names.specs.Records.{record_in}
-use borrow.Author.Rules.{rules}
 use Rattle.names.proofs.told.Goals as goal
 
 pub returns : goal.returns

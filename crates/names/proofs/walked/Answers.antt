@@ -3,7 +3,6 @@ use native.Mathlib.Omega.{arith}
 use Rattle.names.proofs.Going.{goes_as, goes_fits}
 use Rattle.names.proofs.Held.{methods}
 use Rattle.names.proofs.Starts.{new_fits, walked_out, module_as}
-use borrow.Author.Rules.{rules}
 use Rattle.names.proofs.walked.Goals as goal
 
 pub visit-s-requires : goal.visit-s-requires

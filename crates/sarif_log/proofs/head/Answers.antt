@@ -3,7 +3,6 @@ use Rattle.sarif_log.specs.Pieces.{head}
 use Rattle.page.proofs.Pages.{then, retold}
 use mathlib.Core.List.{◌++◌}
 use native.Mathlib.Omega.{arith}
-use borrow.Author.Rules.{rules}
 use Rattle.sarif_log.proofs.head.Goals as goal
 
 pub returns : goal.returns

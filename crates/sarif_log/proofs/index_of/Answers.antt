@@ -1,11 +1,10 @@
 use borrow.Author.Rules.{rules}
-use Prim.Native.Nat.{ℕ, suc, ◌+◌, ◌-◌, ◌≤◌}
+use Prim.Native.Nat.{ℕ, suc, ◌+◌, ◌-◌}
 use Rattle.sarif_log.proofs.Turns.{nonzeros_next, nonzeros_most, nonzeros_past}
 use Rattle.sarif_log.specs.Log.{nonzeros, index_of}
-use lib.ListN.{length, take}
+use lib.ListN.{take}
 use mathlib.Core.Path.{◌≡◌, refl, sym, ap, ◌∙◌}
 use native.Mathlib.Omega.{arith}
-use Rattle.rules.specs.Joined.{codes}
 use Rattle.sarif_log.proofs.index_of.Goals as goal
 
 pub loop-k-init : goal.loop-k-init

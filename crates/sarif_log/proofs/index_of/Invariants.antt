@@ -1,10 +1,7 @@
-use borrow.Author.Rules.{rules}
-use Prim.Native.Nat.{ℕ, suc, ◌+◌, ◌-◌, ◌≤◌}
-use Rattle.sarif_log.proofs.Turns.{nonzeros_next, nonzeros_most, nonzeros_past}
-use Rattle.sarif_log.specs.Log.{nonzeros, index_of}
+use Prim.Native.Nat.{◌-◌, ◌≤◌}
+use Rattle.sarif_log.specs.Log.{nonzeros}
 use lib.ListN.{length, take}
-use mathlib.Core.Path.{◌≡◌, refl, sym, ap, ◌∙◌}
-use native.Mathlib.Omega.{arith}
+use mathlib.Core.Path.{◌≡◌}
 use Rattle.rules.specs.Joined.{codes}
 use Rattle.sarif_log.proofs.index_of.Given as goal
 

@@ -5,7 +5,6 @@ use Rattle.page.proofs.Pages.{retold}
 use mathlib.Core.List.{◌++◌}
 use mathlib.Core.Path.{sym, ◌∙◌}
 use native.Mathlib.Omega.{arith}
-use borrow.Author.Rules.{rules}
 use Rattle.sarif_log.proofs.level.Goals as goal
 
 pub returns-in-Disabled : goal.returns-in-Disabled

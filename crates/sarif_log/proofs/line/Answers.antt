@@ -2,7 +2,6 @@ use Rattle.json_text.specs.Text.{comma}
 use Rattle.page.proofs.Pages.{retold}
 use mathlib.Core.List.{◌∷◌}
 use native.Mathlib.Omega.{arith}
-use borrow.Author.Rules.{rules}
 use Rattle.sarif_log.proofs.line.Goals as goal
 
 pub returns-then-first : goal.returns-then-first

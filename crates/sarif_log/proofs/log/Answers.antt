@@ -6,7 +6,6 @@ use Rattle.page.proofs.Pages.{then, retold}
 use Prim.Native.Nat.{◌+◌, ◌*◌}
 use mathlib.Core.List.{◌∷◌}
 use native.Mathlib.Omega.{arith}
-use borrow.Author.Rules.{rules}
 use Rattle.sarif_log.proofs.log.Goals as goal
 
 pub returns : goal.returns

@@ -6,7 +6,6 @@ use Rattle.answer.specs.Note.{rec_from}
 use Rattle.tree.specs.Table.{table_of}
 use Rattle.page.proofs.Pages.{then, retold}
 use native.Mathlib.Omega.{arith}
-use borrow.Author.Rules.{rules}
 use Rattle.sarif_log.proofs.message.Goals as goal
 
 pub returns : goal.returns

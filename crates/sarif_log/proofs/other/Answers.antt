@@ -2,7 +2,6 @@ use Rattle.sarif_log.proofs.Shapes.{other_text}
 use Rattle.sarif_log.specs.Pieces.{span, related_place}
 use Rattle.page.proofs.Pages.{then, retold}
 use native.Mathlib.Omega.{arith}
-use borrow.Author.Rules.{rules}
 use Rattle.sarif_log.proofs.other.Goals as goal
 
 pub returns : goal.returns

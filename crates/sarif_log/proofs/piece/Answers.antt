@@ -4,7 +4,6 @@ use Rattle.rules.specs.Afterwards.{records_in}
 use Rattle.page.proofs.Pages.{retold}
 use mathlib.Core.List.{◌++◌}
 use native.Mathlib.Omega.{arith}
-use borrow.Author.Rules.{rules}
 use Rattle.sarif_log.proofs.piece.Goals as goal
 
 pub returns-then-k-eq0 : goal.returns-then-k-eq0

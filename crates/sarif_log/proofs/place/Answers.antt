@@ -2,7 +2,6 @@ use Rattle.sarif_log.proofs.Shapes.{place_text}
 use Rattle.sarif_log.specs.Pieces.{span, open_place}
 use Rattle.page.proofs.Pages.{then, retold}
 use native.Mathlib.Omega.{arith}
-use borrow.Author.Rules.{rules}
 use Rattle.sarif_log.proofs.place.Goals as goal
 
 pub returns : goal.returns

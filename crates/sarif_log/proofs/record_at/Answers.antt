@@ -2,7 +2,6 @@ use Rattle.sarif_log.proofs.Turns.{words_at}
 use Prim.Native.Nat.{◌+◌, ◌*◌}
 use mathlib.Core.Path.{◌≡◌}
 use native.Mathlib.Omega.{arith}
-use borrow.Author.Rules.{rules}
 use Rattle.rules.specs.Record.{width}
 use Rattle.sarif_log.proofs.record_at.Goals as goal
 

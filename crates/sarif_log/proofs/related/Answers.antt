@@ -6,7 +6,6 @@ use Rattle.json_text.specs.Escape.{escape, unit}
 use Rattle.page.proofs.Pages.{then, retold}
 use mathlib.Core.Path.{refl}
 use native.Mathlib.Omega.{arith}
-use borrow.Author.Rules.{rules}
 use Rattle.sarif_log.proofs.related.Goals as goal
 
 pub returns-then-w-ne7 : goal.returns-then-w-ne7

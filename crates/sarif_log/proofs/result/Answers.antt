@@ -4,7 +4,6 @@ use Rattle.answer.specs.Note.{rec_from}
 use Rattle.json_text.specs.Text.{text}
 use Rattle.page.proofs.Pages.{then, retold}
 use native.Mathlib.Omega.{arith}
-use borrow.Author.Rules.{rules}
 use Rattle.sarif_log.proofs.result.Goals as goal
 
 pub message-c-requires : goal.message-c-requires

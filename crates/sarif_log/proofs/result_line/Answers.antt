@@ -7,7 +7,6 @@ use Rattle.page.proofs.Pages.{then, retold}
 use Prim.Native.Nat.{◌*◌}
 use mathlib.Core.List.{◌∷◌}
 use native.Mathlib.Omega.{arith}
-use borrow.Author.Rules.{rules}
 use Rattle.rules.specs.Record.{width}
 use Rattle.sarif_log.proofs.result_line.Goals as goal
 

@@ -4,7 +4,6 @@ use Rattle.sarif_log.specs.Pieces.{result_place}
 use Rattle.page.proofs.Pages.{then, retold}
 use mathlib.Core.List.{◌∷◌}
 use native.Mathlib.Omega.{arith}
-use borrow.Author.Rules.{rules}
 use Rattle.sarif_log.proofs.result_place.Goals as goal
 
 pub returns : goal.returns

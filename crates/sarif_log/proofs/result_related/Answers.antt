@@ -3,7 +3,6 @@ use Rattle.answer.specs.Note.{rec_from}
 use Rattle.sarif_log.specs.Pieces.{result_related}
 use Rattle.page.proofs.Pages.{then, retold}
 use native.Mathlib.Omega.{arith}
-use borrow.Author.Rules.{rules}
 use Rattle.sarif_log.proofs.result_related.Goals as goal
 
 pub returns : goal.returns

@@ -2,7 +2,6 @@ use Rattle.sarif_log.proofs.Shapes.{result_rule_text}
 use Rattle.sarif_log.specs.Pieces.{result_rule}
 use Rattle.page.proofs.Pages.{then, retold}
 use native.Mathlib.Omega.{arith}
-use borrow.Author.Rules.{rules}
 use Rattle.sarif_log.proofs.result_rule.Goals as goal
 
 pub returns : goal.returns

@@ -1,11 +1,9 @@
-use Rattle.sarif_log.proofs.Turns.{Turning, turning_first, turning_next, turning_last, results_left, results_all, results_next, results_none}
+use Rattle.sarif_log.proofs.Turns.{turning_first, turning_next, turning_last, results_left, results_all, results_next, results_none}
 use Rattle.rules.specs.Afterwards.{records_in}
 use Rattle.json_text.specs.Text.{lines}
 use Rattle.sarif_log.specs.Log.{results}
-use lib.ListN.{length}
 use mathlib.Core.Bool.{true}
-use borrow.Author.Rules.{rules}
-use Prim.Native.Nat.{◌+◌, ◌*◌, ◌-◌, ◌≤◌}
+use Prim.Native.Nat.{◌+◌, ◌*◌, ◌-◌}
 use mathlib.Core.Path.{◌≡◌, refl}
 use native.Mathlib.Omega.{arith}
 use Rattle.sarif_log.proofs.results.Goals as goal

@@ -1,13 +1,11 @@
-use Rattle.sarif_log.proofs.Turns.{Turning, turning_first, turning_next, turning_last, results_left, results_all, results_next, results_none}
+use Rattle.sarif_log.proofs.Turns.{Turning, results_left}
 use Rattle.rules.specs.Afterwards.{records_in}
 use Rattle.json_text.specs.Text.{lines}
 use Rattle.sarif_log.specs.Log.{results}
 use lib.ListN.{length}
 use mathlib.Core.Bool.{true}
-use borrow.Author.Rules.{rules}
-use Prim.Native.Nat.{◌+◌, ◌*◌, ◌-◌, ◌≤◌}
-use mathlib.Core.Path.{◌≡◌, refl}
-use native.Mathlib.Omega.{arith}
+use Prim.Native.Nat.{◌*◌, ◌-◌, ◌≤◌}
+use mathlib.Core.Path.{◌≡◌}
 use Rattle.sarif_log.proofs.results.Given as goal
 
 abbrev pub invariant-loop-left : goal.invariant-loop-left

@@ -3,7 +3,6 @@ use Rattle.sarif_log.specs.Log.{rule}
 use Rattle.json_text.specs.Text.{text}
 use Rattle.page.proofs.Pages.{then, retold}
 use native.Mathlib.Omega.{arith}
-use borrow.Author.Rules.{rules}
 use Rattle.sarif_log.proofs.rule.Goals as goal
 
 pub returns : goal.returns

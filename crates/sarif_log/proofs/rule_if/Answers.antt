@@ -2,7 +2,6 @@ use Rattle.sarif_log.proofs.Turns.{rule_absent, rule_present}
 use Rattle.sarif_log.specs.Pieces.{rule_line}
 use Rattle.page.proofs.Pages.{then, retold, nothing_wrote}
 use native.Mathlib.Omega.{arith}
-use borrow.Author.Rules.{rules}
 use Rattle.sarif_log.proofs.rule_if.Goals as goal
 
 pub returns-then-tally-code-eq0 : goal.returns-then-tally-code-eq0

@@ -4,7 +4,6 @@ use Rattle.sarif_log.specs.Log.{only, level}
 use Rattle.page.proofs.Pages.{then, retold}
 use mathlib.Core.List.{◌∷◌}
 use native.Mathlib.Omega.{arith}
-use borrow.Author.Rules.{rules}
 use Rattle.sarif_log.proofs.rule_level.Goals as goal
 
 pub returns : goal.returns

@@ -1,13 +1,11 @@
-use Rattle.sarif_log.proofs.Turns.{Turning, turning_first, turning_next, turning_last, rules_left, rules_all, rules_next, rules_none}
+use Rattle.sarif_log.proofs.Turns.{turning_first, turning_next, turning_last, rules_left, rules_all, rules_next, rules_none}
 use Rattle.json_text.specs.Text.{lines}
 use Rattle.sarif_log.specs.Log.{rules}
-use lib.ListN.{length}
 use mathlib.Core.Bool.{true}
 use borrow.Author.Rules.{rules as search_rules}
-use Prim.Native.Nat.{◌+◌, ◌*◌, ◌-◌, ◌≤◌, suc}
-use mathlib.Core.Path.{◌≡◌, refl}
+use Prim.Native.Nat.{◌+◌, ◌*◌, ◌-◌}
+use mathlib.Core.Path.{refl}
 use native.Mathlib.Omega.{arith}
-use Rattle.rules.specs.Joined.{codes}
 use Rattle.sarif_log.proofs.rules.Goals as goal
 
 pub loop-code-init : goal.loop-code-init

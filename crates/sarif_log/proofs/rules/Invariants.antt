@@ -1,11 +1,10 @@
-use Rattle.sarif_log.proofs.Turns.{Turning, turning_first, turning_next, turning_last, rules_left, rules_all, rules_next, rules_none}
+use Rattle.sarif_log.proofs.Turns.{Turning, rules_left}
 use Rattle.json_text.specs.Text.{lines}
 use Rattle.sarif_log.specs.Log.{rules}
 use lib.ListN.{length}
 use mathlib.Core.Bool.{true}
-use Prim.Native.Nat.{◌+◌, ◌*◌, ◌-◌, ◌≤◌, suc}
-use mathlib.Core.Path.{◌≡◌, refl}
-use native.Mathlib.Omega.{arith}
+use Prim.Native.Nat.{◌*◌, ◌-◌, ◌≤◌, suc}
+use mathlib.Core.Path.{◌≡◌}
 use Rattle.rules.specs.Joined.{codes}
 use Rattle.sarif_log.proofs.rules.Given as goal
 

@@ -9,7 +9,6 @@ use Rattle.tree.specs.Bytes.{value_count}
 use Rattle.page.proofs.Pages.{retold}
 use Prim.Native.Nat.{ℕ, ◌<◌}
 use native.Mathlib.Omega.{arith}
-use borrow.Author.Rules.{rules}
 use Rattle.sarif_log.proofs.said.Goals as goal
 
 pub returns-then-value_count-v : goal.returns-then-value_count-v

@@ -3,7 +3,6 @@ use Rattle.sarif_log.specs.Pieces.{span, second_related}
 use Rattle.page.proofs.Pages.{retold, nothing_wrote}
 use Prim.Native.Nat.{◌≤◌, ◌<◌}
 use native.Mathlib.Omega.{arith}
-use borrow.Author.Rules.{rules}
 use Rattle.rules.specs.Joined.{codes}
 use Rattle.sarif_log.proofs.second.Goals as goal
 

@@ -4,7 +4,6 @@ use Rattle.tree.specs.Values.{value_from}
 use Rattle.json_text.specs.Escape.{escape}
 use Rattle.page.proofs.Pages.{retold}
 use mathlib.Core.List.{◌++◌}
-use borrow.Author.Rules.{rules}
 use Rattle.sarif_log.proofs.shown.Goals as goal
 
 pub returns-then-byte_at-le2 : goal.returns-then-byte_at-le2

@@ -5,7 +5,6 @@ use Rattle.sarif_log.specs.Pieces.{result_standing}
 use Rattle.page.proofs.Pages.{retold}
 use mathlib.Core.Path.{sym, ◌∙◌}
 use native.Mathlib.Omega.{arith}
-use borrow.Author.Rules.{rules}
 use Rattle.sarif_log.proofs.standing.Goals as goal
 
 pub returns-in-Disabled : goal.returns-in-Disabled

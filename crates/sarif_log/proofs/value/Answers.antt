@@ -4,7 +4,6 @@ use Rattle.tree.specs.Values.{value_from}
 use Rattle.page.proofs.Pages.{then, retold}
 use mathlib.Core.Option.{some}
 use native.Mathlib.Omega.{arith}
-use borrow.Author.Rules.{rules}
 use Rattle.sarif_log.proofs.value.Goals as goal
 
 pub returns : goal.returns

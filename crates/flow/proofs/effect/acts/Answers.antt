@@ -1,5 +1,4 @@
 use native.Mathlib.Omega.{arith}
-use borrow.Author.Rules.{rules}
 use mathlib.Core.Path.{sym, ap, ◌∙◌}
 use Rattle.flow.specs.Walks.{is_text}
 use Rattle.flow.proofs.Steps.{acts_string, acts_ellipsis, acts_lambda, acts_low, acts_high}

@@ -1,11 +1,6 @@
 use native.Mathlib.Omega.{arith}
-use borrow.Author.Rules.{rules}
-use Prim.Native.Nat.{◌-◌}
-use mathlib.Core.Path.{◌≡◌, refl, sym, ◌∙◌}
-use Rattle.tree.specs.Forest.{forest_of}
-use Rattle.tree.specs.code.Part.{Part}
+use mathlib.Core.Path.{refl, sym, ◌∙◌}
 use Rattle.tree.proofs.Laws.{sized, later}
-use Rattle.rules.specs.Flow.{effect}
 use Rattle.flow.specs.Walks.{is_text}
 use Rattle.flow.proofs.Steps.{effect_past, effect_hit, effect_miss, inside_after}
 use Rattle.flow.proofs.effect.has_effect.Goals as goal

@@ -1,5 +1,4 @@
 use native.Mathlib.Omega.{arith}
-use borrow.Author.Rules.{rules}
 use Rattle.flow.proofs.Steps.{inside_low, inside_above, inside_them}
 use Rattle.flow.proofs.effect.inward.Goals as goal
 

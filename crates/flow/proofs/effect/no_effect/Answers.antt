@@ -1,11 +1,6 @@
 use native.Mathlib.Omega.{arith}
-use Prim.Native.Nat.{◌-◌}
-use Rattle.tree.specs.Forest.{forest_of}
-use Rattle.tree.specs.code.Part.{Part}
 use Rattle.tree.proofs.Laws.{sized, later}
-use Rattle.rules.specs.Flow.{effect_walk}
-use Rattle.answer.proofs.Flat.{Going, going, going_on, going_end}
-use Rattle.flow.specs.Walks.{is_text}
+use Rattle.answer.proofs.Flat.{going, going_on, going_end}
 use Rattle.flow.proofs.TidyLaws.{tidy_valid}
 use Rattle.flow.proofs.Steps.{whole_at, stated_valid, idle_past, idle_next, past_after}
 use Rattle.flow.proofs.effect.no_effect.Goals as goal

@@ -1,9 +1,6 @@
 use native.Mathlib.Omega.{arith}
-use borrow.Author.Rules.{rules}
-use Prim.Native.Nat.{◌-◌}
-use Rattle.tree.specs.code.Part.{Part}
 use Rattle.tree.proofs.Laws.{rest, sized, ended}
-use Rattle.flow.proofs.LastLaws.{Looked, looked_start, looked_step, looked_end}
+use Rattle.flow.proofs.LastLaws.{looked_start, looked_step, looked_end}
 use Rattle.flow.proofs.last.last_of.Goals as goal
 
 pub loop-j-init : goal.loop-j-init

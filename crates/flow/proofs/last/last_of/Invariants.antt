@@ -1,9 +1,6 @@
-use native.Mathlib.Omega.{arith}
-use borrow.Author.Rules.{rules}
 use Prim.Native.Nat.{◌-◌}
 use Rattle.tree.specs.code.Part.{Part}
-use Rattle.tree.proofs.Laws.{rest, sized, ended}
-use Rattle.flow.proofs.LastLaws.{Looked, looked_start, looked_step, looked_end}
+use Rattle.flow.proofs.LastLaws.{Looked}
 use Rattle.flow.proofs.last.last_of.Given as goal
 
 abbrev pub invariant-loop-j : goal.invariant-loop-j

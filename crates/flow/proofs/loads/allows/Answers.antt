@@ -1,5 +1,4 @@
 use native.Mathlib.Omega.{arith}
-use borrow.Author.Rules.{rules}
 use mathlib.Core.Path.{sym, ◌∙◌}
 use Rattle.flow.proofs.Steps.{below, may_list, may_load, may_text, may_not, may_end}
 use Rattle.flow.proofs.loads.allows.Goals as goal

@@ -1,4 +1,3 @@
-use borrow.Author.Rules.{rules}
 use mathlib.Core.Path.{sym, ap, ◌∙◌}
 use Rattle.flow.specs.Walks.{is_text}
 use Rattle.flow.proofs.Steps.{text_none, text_other, text_there}

@@ -1,4 +1,3 @@
-use borrow.Author.Rules.{rules}
 use mathlib.Core.Path.{sym, ◌∙◌}
 use Rattle.answer.specs.Page.{page}
 use Rattle.flow.proofs.Steps.{load_no, load_allowed, load_put}

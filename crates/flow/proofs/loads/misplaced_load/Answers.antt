@@ -1,12 +1,6 @@
 use native.Mathlib.Omega.{arith}
-use borrow.Author.Rules.{rules}
-use Prim.Native.Nat.{◌-◌}
-use mathlib.Core.Bool.{true}
-use Rattle.tree.specs.Forest.{forest_of}
-use Rattle.tree.specs.code.Part.{Part}
 use Rattle.tree.proofs.Laws.{sized, later}
-use Rattle.rules.specs.Flow.{loads}
-use Rattle.answer.proofs.Flat.{Going, going, going_on, going_end}
+use Rattle.answer.proofs.Flat.{going, going_on, going_end}
 use Rattle.flow.specs.Walks.{is_text}
 use Rattle.flow.proofs.Steps.{whole_at, loads_past, loads_next, into_after}
 use Rattle.flow.proofs.loads.misplaced_load.Goals as goal

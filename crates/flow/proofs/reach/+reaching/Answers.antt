@@ -1,30 +1,12 @@
 use native.Mathlib.Omega.{arith}
-use borrow.Author.Rules.{rules}
-use Prim.Native.Nat.{◌+◌, ◌*◌, ◌-◌, ◌≤◌, ℕ, ◌<◌}
-use mathlib.Core.Path.{◌≡◌, refl, sym, ap, ◌∙◌}
+use Prim.Native.Nat.{◌+◌, ℕ}
+use mathlib.Core.Path.{refl, sym, ap, ◌∙◌}
 use mathlib.Core.Bool.{true, false}
-use Rattle.tree.specs.Bytes.{size_at}
-use Rattle.tree.specs.Forest.{forest_of}
-use Rattle.tree.specs.code.Part.{Part}
 use Rattle.tree.proofs.Laws.{rest, sized, ended}
-use Rattle.rules.specs.Flow.{reached, in_list as in_a_list, one_by_one as each_one}
-use Rattle.answer.proofs.Flat.{Going, going, going_on}
-use Rattle.flow.specs.Walks.{is_name, left}
+use Rattle.answer.proofs.Flat.{going, going_on}
+use Rattle.flow.specs.Walks.{is_name}
 use Rattle.flow.proofs.Steps.{whole_at, below}
 use Rattle.flow.proofs.Reaching.{walked_as, walked_still, walked_two, goes_in, goes_free, here_list, here_sides, here_fails, here_stops, here_each, list_again, each_next, each_done, list_done, side_there, side_absent, side_whole, side_low, side_ends}
-use Rattle.flow.proofs.reach.each.Reads as each
-use Rattle.flow.proofs.reach.in_list.Reads as in_list
-use Rattle.flow.proofs.reach.reachable.Reads as reachable
-use Rattle.flow.proofs.reach.side.Reads as side
-use Rattle.flow.proofs.reach.sides.Reads as sides
-use Rattle.fail.proofs.is_fail.Reads as is_fail_reads
-use Rattle.flow.proofs.reach.both.Reads as both_reads
-use Rattle.flow.proofs.reach.goes_on.Reads as goes_on_reads
-use Rattle.flow.proofs.reach.stops.Reads as stops_reads
-use Rattle.flow.proofs.reach.unreachable.Reads as unreachable_reads
-use Rattle.tree.proofs.children.child_of.Reads as child_of_reads
-use Rattle.tree.proofs.bytes.kind_at.Reads as kind_at_reads
-use Rattle.tree.proofs.bytes.size_at.Reads as size_at_reads
 use Rattle.flow.proofs.reach.+reaching.Goals as goal
 
 pub each-loop-j-init : goal.each-loop-j-init

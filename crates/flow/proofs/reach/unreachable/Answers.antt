@@ -1,4 +1,3 @@
-use borrow.Author.Rules.{rules}
 use Rattle.answer.specs.Page.{page}
 use Rattle.flow.proofs.Reaching.{unreached_put, unreached_end, unreached_none}
 use Rattle.flow.proofs.reach.unreachable.Goals as goal

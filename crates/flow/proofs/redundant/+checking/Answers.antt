@@ -1,21 +1,11 @@
 use native.Mathlib.Omega.{arith}
-use borrow.Author.Rules.{rules}
-use Prim.Native.Nat.{◌+◌, ◌*◌, ◌-◌, ℕ, ◌<◌}
+use Prim.Native.Nat.{◌+◌, ℕ}
 use mathlib.Core.Path.{sym, ap, ◌∙◌}
-use Rattle.tree.specs.Bytes.{size_at}
 use Rattle.tree.proofs.Laws.{later, ended}
 use Rattle.answer.specs.Page.{page}
 use Rattle.answer.proofs.Flat.{walked_both}
 use Rattle.flow.proofs.Steps.{below}
 use Rattle.flow.proofs.Tails.{check_continue, check_return, check_list, check_if, check_sides, check_other, last_whole, last_none, last_checked}
-use Rattle.flow.proofs.redundant.check.Reads as check
-use Rattle.flow.proofs.redundant.last.Reads as last
-use Rattle.flow.proofs.redundant.sides.Reads as sides
-use Rattle.flow.proofs.last.last_of.Reads as last_of_reads
-use Rattle.flow.proofs.redundant.bare.Reads as bare_reads
-use Rattle.flow.proofs.redundant.continues.Reads as continues_reads
-use Rattle.tree.proofs.bytes.kind_at.Reads as kind_at_reads
-use Rattle.tree.proofs.bytes.size_at.Reads as size_at_reads
 use Rattle.flow.proofs.redundant.+checking.Goals as goal
 
 pub check-overflow_add-e : goal.check-overflow_add-e

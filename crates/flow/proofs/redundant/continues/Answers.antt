@@ -1,4 +1,3 @@
-use borrow.Author.Rules.{rules}
 use Rattle.tree.specs.Forest.{node_head}
 use Rattle.rules.specs.Record.{plainly}
 use Rattle.answer.specs.Page.{page}

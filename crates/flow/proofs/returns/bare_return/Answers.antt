@@ -1,10 +1,8 @@
-use Prim.Native.Nat.{◌-◌}
 use mathlib.Core.Path.{sym, ◌∙◌}
 use Rattle.tree.specs.Forest.{node_head, node_spot}
 use Rattle.answer.specs.Page.{page}
 use Rattle.answer.specs.Note.{rec_of, span_of, value_of, node_of}
 use Rattle.flow.proofs.ReturnsLaws.{bare_no, bare_valued, bare_put}
-use borrow.Author.Rules.{rules}
 use Rattle.flow.proofs.returns.bare_return.Goals as goal
 
 pub returns-then-kind_at-ne4 : goal.returns-then-kind_at-ne4

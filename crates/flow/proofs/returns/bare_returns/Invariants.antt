@@ -1,11 +1,8 @@
-use native.Mathlib.Omega.{arith}
 use Prim.Native.Nat.{◌-◌}
 use Rattle.tree.specs.Forest.{forest_of, node_head, node_spot}
-use Rattle.tree.proofs.Laws.{sized}
 use Rattle.rules.specs.Flow.{everything, returns as returns_in, bare_recs}
-use Rattle.answer.proofs.Flat.{Going, going, going_on, going_end}
+use Rattle.answer.proofs.Flat.{Going}
 use Rattle.flow.specs.Returns.{Tidy}
-use Rattle.flow.proofs.ReturnsLaws.{tidy_later, tidy_whole, step_some, bare_next, bare_past}
 use Rattle.flow.proofs.returns.bare_returns.Given as goal
 
 abbrev pub invariant-loop-j : goal.invariant-loop-j

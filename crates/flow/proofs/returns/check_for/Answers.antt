@@ -1,9 +1,7 @@
 use native.Mathlib.Omega.{arith}
-use Prim.Native.Nat.{◌-◌}
 use lib.Dec.{eqb}
 use Rattle.answer.specs.Page.{page}
 use Rattle.flow.proofs.ReturnsLaws.{body_tidy, for_none, for_both}
-use borrow.Author.Rules.{rules}
 use Rattle.flow.proofs.returns.check_for.Goals as goal
 
 pub returns-then-why-ge-NONE : goal.returns-then-why-ge-NONE

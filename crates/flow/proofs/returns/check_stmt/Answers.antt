@@ -1,9 +1,7 @@
-use Prim.Native.Nat.{◌-◌}
 use mathlib.Core.Path.{sym, ◌∙◌}
 use lib.Dec.{eqb}
 use Rattle.answer.specs.Page.{page}
 use Rattle.flow.proofs.ReturnsLaws.{stmt_no, stmt_def}
-use borrow.Author.Rules.{rules}
 use Rattle.flow.proofs.returns.check_stmt.Goals as goal
 
 pub returns-then-kind_at-ne12 : goal.returns-then-kind_at-ne12

@@ -1,11 +1,8 @@
-use native.Mathlib.Omega.{arith}
 use Prim.Native.Nat.{◌-◌}
-use mathlib.Core.Path.{◌≡◌, refl, sym, ◌∙◌}
+use mathlib.Core.Path.{◌≡◌}
 use Rattle.tree.specs.Forest.{forest_of}
-use Rattle.tree.proofs.Laws.{sized}
 use Rattle.rules.specs.Flow.{everything, returns as returns_in, first_valued}
 use Rattle.flow.specs.Returns.{Tidy}
-use Rattle.flow.proofs.ReturnsLaws.{tidy_later, tidy_whole, step_some, valued_here, valued_next, valued_end}
 use Rattle.flow.proofs.returns.first_valued.Given as goal
 
 abbrev pub invariant-loop-j : goal.invariant-loop-j

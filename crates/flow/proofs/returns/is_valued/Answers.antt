@@ -1,7 +1,5 @@
 use native.Mathlib.Omega.{arith}
-use Prim.Native.Nat.{◌-◌}
 use Rattle.flow.proofs.ReturnsLaws.{whole_kids, has_child}
-use borrow.Author.Rules.{rules}
 use Rattle.flow.proofs.returns.is_valued.Goals as goal
 
 pub returns : goal.returns

@@ -1,7 +1,5 @@
-use Prim.Native.Nat.{◌-◌}
 use mathlib.Core.Path.{sym, ◌∙◌}
 use borrow.Author.Tests.{ne_eqb}
-use borrow.Author.Rules.{rules}
 use Rattle.flow.proofs.returns.is_valued_return.Goals as goal
 
 pub returns-then-kind_at-eq4 : goal.returns-then-kind_at-eq4

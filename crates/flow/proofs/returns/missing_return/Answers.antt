@@ -1,10 +1,8 @@
-use Prim.Native.Nat.{◌-◌}
 use mathlib.Core.Path.{sym, ◌∙◌}
 use Rattle.tree.specs.Forest.{node_head}
 use Rattle.answer.specs.Page.{page}
 use Rattle.answer.specs.Note.{rec_of, span_of, value_of, node_of}
 use Rattle.flow.proofs.ReturnsLaws.{whole_kids, unless_so, unless_put}
-use borrow.Author.Rules.{rules}
 use Rattle.flow.proofs.returns.missing_return.Goals as goal
 
 pub final_return-requires : goal.final_return-requires

@@ -1,9 +1,8 @@
 use native.Mathlib.Omega.{arith}
-use Prim.Native.Nat.{ℕ, ◌+◌, ◌-◌}
+use Prim.Native.Nat.{ℕ, ◌+◌}
 use mathlib.Core.Path.{ap}
 use lib.Dec.{eqb}
 use Rattle.flow.proofs.ReturnsLaws.{tidy_kids, reason_type, reason_return, body_tidy}
-use borrow.Author.Rules.{rules}
 use Rattle.flow.proofs.returns.reason.Goals as goal
 
 pub require_return_expression-j-requires : goal.require_return_expression-j-requires

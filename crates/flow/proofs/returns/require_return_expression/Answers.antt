@@ -1,9 +1,7 @@
-use Prim.Native.Nat.{◌-◌}
 use mathlib.Core.Path.{sym, ◌∙◌}
 use lib.Dec.{eqb}
 use borrow.Author.Tests.{eq-eqb, ne_eqb}
 use Rattle.flow.proofs.ReturnsLaws.{type_absent, type_none, type_other, type_more}
-use borrow.Author.Rules.{rules}
 use Rattle.flow.proofs.returns.require_return_expression.Goals as goal
 
 pub returns-then-e-j : goal.returns-then-e-j

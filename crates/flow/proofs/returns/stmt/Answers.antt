@@ -1,10 +1,6 @@
 use native.Mathlib.Omega.{arith}
-use Prim.Native.Nat.{◌-◌}
 use lib.Dec.{eqb}
-use Rattle.tree.specs.Forest.{forest_of}
-use Rattle.rules.specs.Flow.{returns_walk}
-use Rattle.answer.proofs.Flat.{Going, going, going_on, going_end}
-use Rattle.flow.specs.Returns.{Tidy}
+use Rattle.answer.proofs.Flat.{going, going_on, going_end}
 use Rattle.flow.proofs.ReturnsLaws.{tidy_later, tidy_first, walk_next, walk_past}
 use Rattle.flow.proofs.returns.stmt.Goals as goal
 

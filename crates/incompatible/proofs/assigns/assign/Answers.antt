@@ -1,8 +1,5 @@
-use native.Mathlib.Omega.{arith}
 use mathlib.Core.Path.{sym, ◌∙◌}
 use Rattle.incompatible.proofs.Deeds.{self_asks, assign_repeat, assign_named}
-use borrow.Author.Rules.{rules}
-use Rattle.incompatible.proofs.assigns.assign.Reads as reads
 use Rattle.incompatible.proofs.assigns.assign.Goals as goal
 
 pub repeat-requires : goal.repeat-requires

@@ -1,17 +1,8 @@
 use native.Mathlib.Omega.{arith}
-use borrow.Author.Rules.{rules}
-use Prim.Native.Nat.{◌-◌}
-use Rattle.tree.specs.Bytes.{size_at}
-use Rattle.tree.specs.code.Part.{Part}
-use Rattle.tree.specs.Forest.{node_head, forest_of}
-use Rattle.rules.specs.Incompatible.{defined_names}
-use Rattle.incompatible.specs.Ground.{Low}
+use Rattle.tree.specs.Forest.{node_head}
 use Rattle.incompatible.specs.Ledger.{is_several}
-use Rattle.incompatible.proofs.Told.{Telling, telling, telling_on, telling_end}
+use Rattle.incompatible.proofs.Told.{telling, telling_on, telling_end}
 use Rattle.incompatible.proofs.Deeds.{fewer, going_part, below_step, named_past}
-use Rattle.incompatible.proofs.assigns.below.Reads as reads
-use Rattle.incompatible.proofs.assigns.below_at.Reads as below_at_reads
-use Rattle.incompatible.proofs.assigns.below_next.Reads as below_next_reads
 use Rattle.incompatible.proofs.assigns.below.Goals as goal
 
 pub loop-j-init : goal.loop-j-init

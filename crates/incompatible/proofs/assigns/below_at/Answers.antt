@@ -1,12 +1,6 @@
 use native.Mathlib.Omega.{arith}
 use mathlib.Core.Path.{sym, ap, ◌∙◌}
 use Rattle.incompatible.proofs.Deeds.{bound, bound_low, below_other, below_none, below_name}
-use borrow.Author.Rules.{rules}
-use Rattle.incompatible.proofs.assigns.below_at.Reads as reads
-use Rattle.incompatible.proofs.assigns.binds.Reads as binds_reads
-use Rattle.incompatible.proofs.assigns.ident.Reads as ident_reads
-use Rattle.tree.proofs.bytes.kind_at.Reads as kind_at_reads
-use Rattle.tree.proofs.bytes.role_at.Reads as role_at_reads
 use Rattle.incompatible.proofs.assigns.below_at.Goals as goal
 
 pub returns-then-role_at-ne0 : goal.returns-then-role_at-ne0

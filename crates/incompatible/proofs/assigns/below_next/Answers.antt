@@ -1,12 +1,6 @@
-use native.Mathlib.Omega.{arith}
 use Prim.Native.Nat.{ℕ, ◌+◌}
 use mathlib.Core.Path.{sym, ap, ◌∙◌}
 use Rattle.incompatible.proofs.Deeds.{several_yes, several_other, several_role}
-use borrow.Author.Rules.{rules}
-use Rattle.incompatible.proofs.assigns.below_next.Reads as reads
-use Rattle.tree.proofs.bytes.kind_at.Reads as kind_at_reads
-use Rattle.tree.proofs.bytes.role_at.Reads as role_at_reads
-use Rattle.tree.proofs.bytes.size_at.Reads as size_at_reads
 use Rattle.incompatible.proofs.assigns.below_next.Goals as goal
 
 pub returns-then-role_at-ne0 : goal.returns-then-role_at-ne0

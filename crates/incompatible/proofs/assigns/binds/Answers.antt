@@ -1,7 +1,4 @@
-use native.Mathlib.Omega.{arith}
-use borrow.Author.Rules.{rules}
 use borrow.Author.Tests.{ne_eqb}
-use Rattle.incompatible.proofs.assigns.binds.Reads as reads
 use Rattle.incompatible.proofs.assigns.binds.Goals as goal
 
 pub returns-then-k-eq40 : goal.returns-then-k-eq40

@@ -1,9 +1,6 @@
-use native.Mathlib.Omega.{arith}
 use Rattle.tree.specs.Forest.{forest_of}
 use Rattle.rules.specs.Incompatible.{deeds}
 use Rattle.incompatible.proofs.Told.{all_judged}
-use borrow.Author.Rules.{rules}
-use Rattle.incompatible.proofs.assigns.duplicate_top_level_assignment.Reads as reads
 use Rattle.incompatible.proofs.assigns.duplicate_top_level_assignment.Goals as goal
 
 pub stmts-r-requires : goal.stmts-r-requires

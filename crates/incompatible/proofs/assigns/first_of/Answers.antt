@@ -1,8 +1,5 @@
-use native.Mathlib.Omega.{arith}
 use mathlib.Core.Path.{sym}
 use Rattle.incompatible.proofs.Told.{get_d_beyond}
-use borrow.Author.Rules.{rules}
-use Rattle.incompatible.proofs.assigns.first_of.Reads as reads
 use Rattle.incompatible.proofs.assigns.first_of.Goals as goal
 
 pub returns : goal.returns

@@ -1,14 +1,8 @@
 use native.Mathlib.Omega.{arith}
-use Prim.Native.Nat.{◌<◌}
 use mathlib.Core.Path.{◌≡◌, refl, sym, ◌∙◌}
 use lib.ListN.{length}
 use Rattle.incompatible.proofs.Told.{ident_new, ident_again}
 use borrow.Author.Rules.{rules}
-use Rattle.incompatible.proofs.assigns.ident.Reads as reads
-use Rattle.incompatible.proofs.assigns.define.Reads as define_reads
-use Rattle.incompatible.proofs.assigns.first_of.Reads as first_of_reads
-use Rattle.incompatible.proofs.assigns.put_again.Reads as put_again_reads
-use Rattle.tree.proofs.bytes.value_at.Reads as value_at_reads
 use Rattle.incompatible.proofs.assigns.ident.Goals as goal
 
 pub returns-then-old-eq0 : goal.returns-then-old-eq0

@@ -1,9 +1,6 @@
-use native.Mathlib.Omega.{arith}
 use mathlib.Core.Path.{sym}
 use mathlib.Core.Bool.{false}
 use Rattle.incompatible.proofs.Told.{get_d_beyond}
-use borrow.Author.Rules.{rules}
-use Rattle.incompatible.proofs.assigns.is_exported.Reads as reads
 use Rattle.incompatible.proofs.assigns.is_exported.Goals as goal
 
 pub returns : goal.returns

@@ -1,11 +1,5 @@
-use native.Mathlib.Omega.{arith}
 use mathlib.Core.Path.{sym, ◌∙◌}
 use Rattle.incompatible.proofs.Deeds.{self_no_target, self_no_value, self_other, self_value, self_is}
-use borrow.Author.Rules.{rules}
-use Rattle.incompatible.proofs.assigns.is_self_set.Reads as reads
-use Rattle.tree.proofs.children.child_of.Reads as child_of_reads
-use Rattle.tree.proofs.bytes.kind_at.Reads as kind_at_reads
-use Rattle.tree.proofs.bytes.value_at.Reads as value_at_reads
 use Rattle.incompatible.proofs.assigns.is_self_set.Goals as goal
 
 pub returns-then-e-x : goal.returns-then-e-x

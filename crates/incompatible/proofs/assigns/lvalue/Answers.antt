@@ -2,8 +2,6 @@ use native.Mathlib.Omega.{arith}
 use mathlib.Core.Path.{sym, ap, ◌∙◌}
 use Rattle.tree.proofs.Laws.{kids}
 use Rattle.incompatible.proofs.Deeds.{bound, bound_low, inside, role_other, role_none, role_several, role_one}
-use borrow.Author.Rules.{rules}
-use Rattle.incompatible.proofs.assigns.lvalue.Reads as reads
 use Rattle.incompatible.proofs.assigns.lvalue.Goals as goal
 
 pub returns-then-role_at-role : goal.returns-then-role_at-role

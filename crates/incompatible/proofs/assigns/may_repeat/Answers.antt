@@ -1,12 +1,6 @@
-use native.Mathlib.Omega.{arith}
 use mathlib.Core.Path.{sym, ap, ◌∙◌}
 use Rattle.rules.specs.Incompatible.{free}
 use Rattle.incompatible.proofs.Told.{free_none, free_other, free_loaded}
-use borrow.Author.Rules.{rules}
-use Rattle.incompatible.proofs.assigns.may_repeat.Reads as reads
-use Rattle.incompatible.proofs.assigns.first_of.Reads as first_of_reads
-use Rattle.incompatible.proofs.assigns.is_exported.Reads as is_exported_reads
-use Rattle.tree.proofs.bytes.kind_at.Reads as kind_at_reads
 use Rattle.incompatible.proofs.assigns.may_repeat.Goals as goal
 
 pub returns-then-old-eq0 : goal.returns-then-old-eq0

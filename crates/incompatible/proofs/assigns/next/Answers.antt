@@ -1,12 +1,8 @@
 use native.Mathlib.Omega.{arith}
 use Prim.Native.Nat.{ℕ, ◌+◌}
-use mathlib.Core.Path.{sym, ap, ◌∙◌}
+use mathlib.Core.Path.{ap}
 use Rattle.tree.specs.Bytes.{kind_at}
 use Rattle.incompatible.proofs.Deeds.{goes, stays_below, stays_above}
-use borrow.Author.Rules.{rules}
-use Rattle.incompatible.proofs.assigns.next.Reads as reads
-use Rattle.tree.proofs.bytes.kind_at.Reads as kind_at_reads
-use Rattle.tree.proofs.bytes.size_at.Reads as size_at_reads
 use Rattle.incompatible.proofs.assigns.next.Goals as goal
 
 pub returns-then-k-lt8 : goal.returns-then-k-lt8

@@ -3,11 +3,6 @@ use mathlib.Core.Path.{◌≡◌, sym, ◌∙◌}
 use lib.ListN.{length}
 use Rattle.incompatible.proofs.Told.{repeat_free, repeat_not}
 use borrow.Author.Rules.{rules}
-use Rattle.incompatible.proofs.assigns.repeat.Reads as reads
-use Rattle.incompatible.proofs.assigns.export.Reads as export_reads
-use Rattle.incompatible.proofs.assigns.ident.Reads as ident_reads
-use Rattle.incompatible.proofs.assigns.may_repeat.Reads as may_repeat_reads
-use Rattle.tree.proofs.bytes.value_at.Reads as value_at_reads
 use Rattle.incompatible.proofs.assigns.repeat.Goals as goal
 
 pub export-requires : goal.export-requires

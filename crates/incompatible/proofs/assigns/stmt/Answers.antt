@@ -2,8 +2,6 @@ use native.Mathlib.Omega.{arith}
 use mathlib.Core.Path.{sym, ◌∙◌}
 use Rattle.tree.proofs.Laws.{kids}
 use Rattle.incompatible.proofs.Deeds.{inside, stmt_assign, stmt_modify, stmt_def, stmt_load, stmt_other}
-use borrow.Author.Rules.{rules}
-use Rattle.incompatible.proofs.assigns.stmt.Reads as reads
 use Rattle.incompatible.proofs.assigns.stmt.Goals as goal
 
 pub assign-requires : goal.assign-requires

@@ -1,16 +1,9 @@
 use native.Mathlib.Omega.{arith}
-use Prim.Native.Nat.{◌-◌}
 use Rattle.tree.specs.Bytes.{kind_at}
-use Rattle.tree.specs.Forest.{forest_of}
-use Rattle.tree.specs.code.Part.{Part}
 use Rattle.tree.proofs.Laws.{first, sized, ended}
-use Rattle.rules.specs.Incompatible.{deeds}
-use Rattle.incompatible.specs.Ground.{Low}
 use Rattle.incompatible.specs.Ledger.{goes_in, top_of}
-use Rattle.incompatible.proofs.Told.{Telling, telling, telling_on, telling_end}
+use Rattle.incompatible.proofs.Told.{telling, telling_on, telling_end}
 use Rattle.incompatible.proofs.Deeds.{fewer, going_part, deeds_step, deeds_past}
-use borrow.Author.Rules.{rules}
-use Rattle.incompatible.proofs.assigns.stmts.Reads as reads
 use Rattle.incompatible.proofs.assigns.stmts.Goals as goal
 
 pub loop-i-init : goal.loop-i-init

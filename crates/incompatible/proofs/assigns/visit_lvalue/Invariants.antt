@@ -1,16 +1,9 @@
-use native.Mathlib.Omega.{arith}
-use borrow.Author.Rules.{rules}
 use Prim.Native.Nat.{◌-◌}
 use Rattle.tree.specs.Forest.{forest_of}
 use Rattle.tree.specs.code.Part.{Part}
-use Rattle.tree.proofs.Laws.{first, rest, sized, ended}
 use Rattle.rules.specs.Incompatible.{defined_names}
 use Rattle.incompatible.specs.Ground.{Low}
-use Rattle.incompatible.proofs.Told.{Telling, telling, telling_on, telling_end}
-use Rattle.incompatible.proofs.Deeds.{fewer, named_over, named_past}
-use Rattle.incompatible.proofs.assigns.visit_lvalue.Reads as reads
-use Rattle.incompatible.proofs.assigns.lvalue.Reads as lvalue_reads
-use Rattle.tree.proofs.bytes.size_at.Reads as size_at_reads
+use Rattle.incompatible.proofs.Told.{Telling}
 use Rattle.incompatible.proofs.assigns.visit_lvalue.Given as goal
 
 abbrev pub invariant-loop-j : goal.invariant-loop-j

@@ -1,16 +1,10 @@
-use native.Mathlib.Omega.{arith}
-use borrow.Author.Rules.{rules}
 use Prim.Native.Nat.{◌-◌}
 use Rattle.tree.specs.Forest.{forest_of}
 use Rattle.tree.specs.code.Part.{Part}
-use Rattle.tree.proofs.Laws.{later, first, sized}
 use Rattle.rules.specs.Visit.{each}
 use Rattle.rules.specs.Incompatible.{check_at}
-use Rattle.answer.proofs.Flat.{Going, going, going_on, going_end}
+use Rattle.answer.proofs.Flat.{Going}
 use Rattle.incompatible.specs.Five.{is, five}
-use Rattle.incompatible.proofs.Checks.{each_next, each_past}
-use Rattle.incompatible.proofs.types.bad_type_equality.Reads as reads
-use Rattle.incompatible.proofs.types.match_bad_type_equality.Reads as match_bad_type_equality_reads
 use Rattle.incompatible.proofs.types.bad_type_equality.Given as goal
 
 abbrev pub invariant-loop-i : goal.invariant-loop-i

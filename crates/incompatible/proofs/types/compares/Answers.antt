@@ -1,7 +1,4 @@
-use native.Mathlib.Omega.{arith}
-use borrow.Author.Rules.{rules}
 use Rattle.incompatible.proofs.Checks.{eqb_swap, not_eqb}
-use Rattle.incompatible.proofs.types.compares.Reads as reads
 use Rattle.incompatible.proofs.types.compares.Goals as goal
 
 pub returns-then-k-eq31 : goal.returns-then-k-eq31

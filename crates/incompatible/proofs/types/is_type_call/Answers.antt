@@ -1,14 +1,6 @@
-use native.Mathlib.Omega.{arith}
 use Prim.Native.Nat.{ℕ, ◌+◌}
 use mathlib.Core.Path.{sym, ap, ◌∙◌}
 use Rattle.incompatible.proofs.Checks.{call_absent, call_other, call_below, call_is, call_no}
-use borrow.Author.Rules.{rules}
-use Rattle.incompatible.proofs.types.is_type_call.Reads as reads
-use Rattle.incompatible.proofs.types.calls_type.Reads as calls_type_reads
-use Rattle.incompatible.proofs.types.one_argument.Reads as one_argument_reads
-use Rattle.tree.proofs.children.child_of.Reads as child_of_reads
-use Rattle.tree.proofs.bytes.kind_at.Reads as kind_at_reads
-use Rattle.tree.proofs.bytes.size_at.Reads as size_at_reads
 use Rattle.incompatible.proofs.types.is_type_call.Goals as goal
 
 pub returns-then-e-j : goal.returns-then-e-j

@@ -1,13 +1,6 @@
-use native.Mathlib.Omega.{arith}
 use mathlib.Core.Path.{sym, ap, ◌∙◌}
 use Rattle.incompatible.specs.Five.{five}
 use Rattle.incompatible.proofs.Checks.{ident_absent, ident_other, ident_is}
-use borrow.Author.Rules.{rules}
-use Rattle.incompatible.proofs.types.lookup_type.Reads as reads
-use Rattle.incompatible.proofs.types.names_type.Reads as names_type_reads
-use Rattle.tree.proofs.children.child_of.Reads as child_of_reads
-use Rattle.tree.proofs.bytes.kind_at.Reads as kind_at_reads
-use Rattle.tree.proofs.bytes.value_at.Reads as value_at_reads
 use Rattle.incompatible.proofs.types.lookup_type.Goals as goal
 
 pub returns-then-e-j : goal.returns-then-e-j

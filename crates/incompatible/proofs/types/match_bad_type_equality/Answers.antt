@@ -8,15 +8,6 @@ use Rattle.tree.proofs.Laws.{kids}
 use Rattle.answer.specs.Page.{page}
 use Rattle.answer.specs.Note.{rec_of, span_of, value_of, node_of}
 use Rattle.incompatible.proofs.Checks.{check_no, check_left, check_right, check_put}
-use borrow.Author.Rules.{rules}
-use Rattle.incompatible.proofs.types.match_bad_type_equality.Reads as reads
-use Rattle.answer.proofs.put.Reads as put_reads
-use Rattle.incompatible.proofs.types.compares.Reads as compares_reads
-use Rattle.incompatible.proofs.types.is_type_call.Reads as is_type_call_reads
-use Rattle.incompatible.proofs.types.lookup_type.Reads as lookup_type_reads
-use Rattle.tree.proofs.children.child_of.Reads as child_of_reads
-use Rattle.tree.proofs.bytes.kind_at.Reads as kind_at_reads
-use Rattle.tree.proofs.bytes.size_at.Reads as size_at_reads
 use Rattle.incompatible.proofs.types.match_bad_type_equality.Goals as goal
 
 pub is_type_call-requires : goal.is_type_call-requires

@@ -1,7 +1,4 @@
-use native.Mathlib.Omega.{arith}
-use borrow.Author.Rules.{rules}
 use borrow.Author.Tests.{eq-eqb, ne_eqb}
-use Rattle.incompatible.proofs.types.names_type.Reads as reads
 use Rattle.incompatible.proofs.types.names_type.Goals as goal
 
 pub returns-then-v-names : goal.returns-then-v-names

@@ -1,12 +1,7 @@
-use native.Mathlib.Omega.{arith}
 use Prim.Native.Nat.{ℕ, ◌+◌}
 use mathlib.Core.Path.{ap, ◌∙◌}
 use Rattle.tree.specs.code.Find.{child_of}
 use Rattle.incompatible.proofs.Checks.{tally_absent, one_is}
-use borrow.Author.Rules.{rules}
-use Rattle.incompatible.proofs.types.one_argument.Reads as reads
-use Rattle.tree.proofs.children.child_of.Reads as child_of_reads
-use Rattle.tree.proofs.bytes.size_at.Reads as size_at_reads
 use Rattle.incompatible.proofs.types.one_argument.Goals as goal
 
 pub returns-then-e-j : goal.returns-then-e-j

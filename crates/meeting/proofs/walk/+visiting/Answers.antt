@@ -1,28 +1,8 @@
 -- `visit`, `step`, `node` and `below` call one another; each meets its contract. The measure goes by how many nodes are below. Assumes nothing.
-use borrow.Author.Rules.{rules}
-use Prim.Native.Nat.{ℕ, ◌+◌, ◌*◌, ◌-◌, ◌≤◌, ◌<◌}
 use native.Mathlib.Omega.{arith}
-use mathlib.Core.Path.{◌≡◌, refl}
-use lib.ListN.{length, drop}
-use Rattle.tree.specs.Bytes.{size_at}
-use Rattle.tree.specs.Forest.{forest_of}
-use Rattle.tree.specs.code.Part.{Part}
+use mathlib.Core.Path.{refl}
 use Rattle.tree.proofs.Laws.{sized, ended, rest}
-use Rattle.meeting.specs.Asked.{asked, plan, run, at}
-use Rattle.meeting.specs.Words.{meets}
 use Rattle.meeting.proofs.Walking.{whole_at, under, few, below_none, below_self, below_other, row_next, row_done, step_wanted, step_unwanted, visit_next, visit_done}
-use Rattle.meeting.proofs.walk.below.Reads as below
-use Rattle.meeting.proofs.walk.node.Reads as node
-use Rattle.meeting.proofs.walk.step.Reads as step
-use Rattle.meeting.proofs.walk.visit.Reads as visit
-use Rattle.meeting.proofs.meet.Reads as meet_reads
-use Rattle.meeting.proofs.walk.after.Reads as after_reads
-use Rattle.meeting.proofs.walk.planned.Reads as planned_reads
-use Rattle.meeting.proofs.walk.row.Reads as row_reads
-use Rattle.meeting.proofs.walk.wanted.Reads as wanted_reads
-use Rattle.tree.proofs.bytes.kind_at.Reads as kind_at_reads
-use Rattle.tree.proofs.bytes.role_at.Reads as role_at_reads
-use Rattle.tree.proofs.bytes.size_at.Reads as size_at_reads
 use Rattle.meeting.proofs.walk.+visiting.Goals as goal
 
 pub below-returns-then-a-eq13 : goal.below-returns-then-a-eq13

@@ -1,27 +1,11 @@
-use borrow.Author.Rules.{rules}
-use Prim.Native.Nat.{ℕ, ◌+◌, ◌*◌, ◌-◌, ◌≤◌, ◌<◌}
-use native.Mathlib.Omega.{arith}
-use mathlib.Core.Path.{◌≡◌, refl}
+use Prim.Native.Nat.{◌+◌, ◌*◌, ◌-◌, ◌≤◌}
+use mathlib.Core.Path.{◌≡◌}
 use lib.ListN.{length, drop}
 use Rattle.tree.specs.Bytes.{size_at}
 use Rattle.tree.specs.Forest.{forest_of}
 use Rattle.tree.specs.code.Part.{Part}
-use Rattle.tree.proofs.Laws.{sized, ended, rest}
 use Rattle.meeting.specs.Asked.{asked, plan, run, at}
 use Rattle.meeting.specs.Words.{meets}
-use Rattle.meeting.proofs.Walking.{whole_at, under, few, below_none, below_self, below_other, row_next, row_done, step_wanted, step_unwanted, visit_next, visit_done}
-use Rattle.meeting.proofs.walk.below.Reads as below
-use Rattle.meeting.proofs.walk.node.Reads as node
-use Rattle.meeting.proofs.walk.step.Reads as step
-use Rattle.meeting.proofs.walk.visit.Reads as visit
-use Rattle.meeting.proofs.meet.Reads as meet_reads
-use Rattle.meeting.proofs.walk.after.Reads as after_reads
-use Rattle.meeting.proofs.walk.planned.Reads as planned_reads
-use Rattle.meeting.proofs.walk.row.Reads as row_reads
-use Rattle.meeting.proofs.walk.wanted.Reads as wanted_reads
-use Rattle.tree.proofs.bytes.kind_at.Reads as kind_at_reads
-use Rattle.tree.proofs.bytes.role_at.Reads as role_at_reads
-use Rattle.tree.proofs.bytes.size_at.Reads as size_at_reads
 use Rattle.meeting.proofs.walk.+visiting.Given as goal
 
 abbrev pub invariant-node-loop-k : goal.invariant-node-loop-k

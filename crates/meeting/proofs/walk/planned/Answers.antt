@@ -1,6 +1,5 @@
 -- `planned` meets its contract. Assumes nothing.
 use mathlib.Core.Path.{◌∙◌}
-use borrow.Author.Rules.{rules}
 use Rattle.meeting.specs.Asked.{form_row, bind_row, row, plan}
 use Rattle.meeting.proofs.Asks.{five, rows, in_table}
 use Rattle.meeting.proofs.walk.planned.Goals as goal

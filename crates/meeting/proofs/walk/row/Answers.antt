@@ -3,7 +3,6 @@ use Rattle.meeting.proofs.Asks.{row_kind, row_late, row_part, row_name, row_noth
 use Rattle.meeting.specs.Asked.{bind_row, plan}
 use mathlib.Core.Path.{refl}
 use native.Mathlib.Omega.{arith}
-use borrow.Author.Rules.{rules}
 use Rattle.meeting.proofs.walk.row.Goals as goal
 
 pub returns-then-kind-lt48 : goal.returns-then-kind-lt48

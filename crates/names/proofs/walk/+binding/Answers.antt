@@ -1,27 +1,13 @@
 -- `bind` and `bind-one` meet their contracts. Assumes nothing.
-use Prim.Native.Nat.{ℕ, ◌+◌, ◌*◌, ◌-◌, ◌<◌}
-use borrow.Author.Rules.{rules}
+use Prim.Native.Nat.{ℕ, ◌+◌}
 use borrow.Author.Tests.{eq-eqb, ne_eqb}
 use native.Mathlib.Omega.{arith}
-use mathlib.Core.Path.{◌≡◌, refl, sym, ap, ◌∙◌}
-use mathlib.Core.List.{List}
-use lib.ListN.{length}
-use Rattle.tree.specs.Bytes.{pick, size_at, role_at}
-use Rattle.tree.specs.code.Part.{Part}
+use mathlib.Core.Path.{refl, sym, ap, ◌∙◌}
+use Rattle.tree.specs.Bytes.{role_at}
 use Rattle.tree.proofs.Laws.{rest, sized, ended}
-use Rattle.scope.specs.State.{Fits}
-use Rattle.names.specs.Walk.{Goes, names_in, node_bind, node_use}
-use Rattle.scope.specs.declared.Scope.{Scope}
 use Rattle.names.proofs.Going.{skips, goes_as, goes_fits}
 use Rattle.names.proofs.Parts.{node_in_part, node_few, name_several, name_name, name_other}
 use Rattle.names.proofs.Rows.{names_on, names_last, kids_as, names_as, pick_true, pick_false, name_so}
-use Rattle.names.proofs.walk.bind.Reads as bind
-use Rattle.names.proofs.walk.bind_one.Reads as bind-one
-use Rattle.names.proofs.walk.binds_name.Reads as binds_name_reads
-use Rattle.names.proofs.walk.ident.Reads as ident_reads
-use Rattle.tree.proofs.bytes.kind_at.Reads as kind_at_reads
-use Rattle.tree.proofs.bytes.role_at.Reads as role_at_reads
-use Rattle.tree.proofs.bytes.size_at.Reads as size_at_reads
 use Rattle.names.proofs.walk.+binding.Goals as goal
 
 pub bind-overflow_add-e : goal.bind-overflow_add-e

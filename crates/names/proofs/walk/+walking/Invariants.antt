@@ -1,58 +1,9 @@
-use Rattle.names.proofs.walk.gets.Reads as gets
-use Rattle.names.proofs.walk.bound.Reads as bound
-use Rattle.names.proofs.walk.branch.Reads as branch
-use Rattle.names.proofs.walk.clause.Reads as clause
-use Rattle.names.proofs.walk.later.Reads as later
-use Rattle.names.proofs.walk.block.Reads as block
-use Rattle.names.proofs.walk.comp.Reads as comp
-use Rattle.names.proofs.walk.cond.Reads as cond
-use Rattle.names.proofs.walk.def.Reads as def
-use Rattle.names.proofs.walk.down.Reads as down
-use Rattle.names.proofs.walk.expr.Reads as expr
-use Rattle.names.proofs.walk.body.Reads as body
-use Rattle.names.proofs.walk.rest.Reads as rest
-use Rattle.names.proofs.walk.lambda.Reads as lambda
-use Rattle.names.proofs.walk.modify.Reads as modify
-use Rattle.names.proofs.walk.one.Reads as one
-use Rattle.names.proofs.walk.over.Reads as over
-use Rattle.names.proofs.walk.ret.Reads as ret
-use Rattle.names.proofs.walk.turn.Reads as turn
-use Rattle.names.proofs.walk.loops.Reads as loops
-use Rattle.names.proofs.walk.side.Reads as side
-use Rattle.names.proofs.walk.stmt.Reads as stmt
-use Rattle.names.proofs.walk.eval.Reads as eval
-use Rattle.names.proofs.walk.step.Reads as step
-use Rattle.names.proofs.walk.assign.Reads as assign
-use Rattle.names.proofs.walk.visit.Reads as visit
-use borrow.Author.Rules.{rules}
 use Prim.Native.Nat.{ℕ, ◌-◌, ◌<◌, ◌+◌, ◌*◌, ◌≤◌}
-use native.Mathlib.Omega.{arith}
-use Rattle.names.proofs.Going.{then, goes_fits, goes_as, enter_fits, scopes_to, leave_asks, skips, back_fits, sides_to, stop_to, goes_to, turns_to}
-use Rattle.names.proofs.Rows.{node_zero, below_ends, below_node, regroup, clause_none, clause_there, kid_as, kids_as, down_as, fail_as, cond_true, cond_false, clauses_on, clauses_last, below_rest, node_more, loop_once, loop_twice, return_node, pick_true, pick_false, visit_on, visit_last}
 use Rattle.tree.specs.Bytes.{size_at}
-use Rattle.scope.proofs.Scope.back.Reads as back_reads
-use Rattle.scope.proofs.Scope.enter.Reads as enter_reads
-use Rattle.scope.proofs.Scope.join.Reads as join_reads
-use Rattle.scope.proofs.Scope.leave.Reads as leave_reads
-use Rattle.scope.proofs.Scope.stop.Reads as stop_reads
-use Rattle.scope.proofs.Scope.unlooped.Reads as unlooped_reads
-use Rattle.scope.proofs.Scope.used.Reads as used_reads
-use Rattle.names.proofs.walk.bind.Reads as bind_reads
-use Rattle.names.proofs.walk.wanted.Reads as wanted_reads
-use Rattle.fail.proofs.is_fail.Reads as is_fail_reads
-use Rattle.tree.proofs.bytes.kind_at.Reads as kind_at_reads
-use Rattle.tree.proofs.bytes.role_at.Reads as role_at_reads
-use Rattle.tree.proofs.bytes.size_at.Reads as size_at_reads
-use Rattle.tree.proofs.children.child_of.Reads as child_of_reads
-use mathlib.Core.Path.{sym, ◌∙◌, refl, ◌≡◌}
-use Rattle.names.proofs.Parts.{node_statements, node_load, nine_on, eleven_off, node_few, bound_there, bound_none, clause_after, node_if, node_if_else, ten_left, node_def, node_expression, node_identifier, node_list, node_dict, node_other, node_assign, node_lambda, node_in_part, node_for, node_modify, over_there, over_none, node_break, node_continue, node_statement}
-use Rattle.names.proofs.Held.{methods}
-use Rattle.rules.specs.Order.{fails}
-use Rattle.scope.specs.declared.Abort.TheVariants.{Function, Loop}
+use mathlib.Core.Path.{◌≡◌}
 use mathlib.Core.List.{List}
 use lib.ListN.{length}
 use Rattle.tree.specs.code.Part.{Part}
-use Rattle.tree.proofs.Laws.{rest, sized, ended}
 use Rattle.scope.specs.State.{Fits}
 use Rattle.names.specs.Walk.{Goes, clauses_of, want_of, visit_of}
 use Rattle.scope.specs.declared.Scope.{Scope}

@@ -1,5 +1,4 @@
 -- `binds_name` meets its contract. Assumes nothing.
-use Prim.Native.Nat.{◌-◌}
 use Rattle.names.proofs.Rows.{names_first, names_second, names_third}
 use Rattle.names.proofs.walk.binds_name.Goals as goal
 

@@ -1,6 +1,4 @@
 -- `ident` meets its contract. Assumes nothing.
-use borrow.Author.Rules.{rules}
-use native.Mathlib.Omega.{arith}
 use Rattle.names.proofs.Going.{goes_to}
 use Rattle.names.proofs.Parts.{node_few}
 use Rattle.names.proofs.Rows.{pick_true, pick_false}

@@ -1,6 +1,4 @@
 -- `wanted` meets its contract. Assumes nothing.
-use Prim.Native.Nat.{◌-◌}
-use borrow.Author.Rules.{rules}
 use Rattle.names.proofs.Rows.{wanted_every, wanted_role}
 use Rattle.names.proofs.walk.wanted.Goals as goal
 

@@ -6,7 +6,6 @@ use Rattle.page.proofs.Pages.{retold, nothing_wrote}
 use Prim.Native.Nat.{◌≤◌, ◌<◌}
 use mathlib.Core.List.{◌++◌}
 use native.Mathlib.Omega.{arith}
-use borrow.Author.Rules.{rules}
 use Rattle.sarif_log.proofs.words.kind_word.Goals as goal
 
 pub returns-then-kind-gt4 : goal.returns-then-kind-gt4

@@ -5,7 +5,6 @@ use Rattle.page.proofs.Pages.{retold, nothing_wrote}
 use Prim.Native.Nat.{◌≤◌, ◌<◌}
 use mathlib.Core.List.{◌++◌}
 use native.Mathlib.Omega.{arith}
-use borrow.Author.Rules.{rules}
 use Rattle.rules.specs.Joined.{codes}
 use Rattle.sarif_log.proofs.words.phrase.Goals as goal
 

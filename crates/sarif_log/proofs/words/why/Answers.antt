@@ -7,7 +7,6 @@ use Prim.Native.Nat.{◌≤◌, ◌<◌}
 use mathlib.Core.Path.{◌≡◌}
 use mathlib.Core.List.{◌∷◌, ◌++◌}
 use native.Mathlib.Omega.{arith}
-use borrow.Author.Rules.{rules}
 use Rattle.sarif_log.proofs.words.why.Goals as goal
 
 pub returns-then-code-ne16 : goal.returns-then-code-ne16
