@@ -6,7 +6,6 @@ ghost use Rattle.desk.specs.Choices.{mode_of};
 ghost use Rattle.desk.specs.Handed.{list_answer, refusal_answer, log_piece, Lists, Holds};
 
 use crate::reading::{ALL, Rooms};
-use libc::{STDERR_FILENO, STDOUT_FILENO};
 use rules::{CODES, Outcome, Refusal, WIDTH};
 
 // The words of 10,240 records: no valid tree has more.
@@ -15,11 +14,12 @@ pub const ANSWER: usize = WIDTH * 10240;
 // Bytes for every text of a call with that much answer room, or every piece of a log, and for the last line.
 pub const PAGE: usize = 11 * ANSWER + sarif_log::PIECE;
 
-pub fn say(s: &[u8]) -> bool {
-    if io::write_all(STDOUT_FILENO, s) {
+// Nothing is kept back: a write goes to standard output at once.
+pub fn say<P: Print + Eprint>(rt: &P, s: &[u8]) -> bool {
+    if rt.write_all(s).is_ok() {
         return true;
     }
-    io::write_all(STDERR_FILENO, b"desk: standard output can't be written\n");
+    let _ = rt.eprintln("desk: standard output can't be written");
     false
 }
 
@@ -34,44 +34,59 @@ pub fn least(a: usize, b: usize) -> usize
 
 // ---- bytes handed to a write call: a list, the line of a refusal, a piece of a log
 
-fn hand_list(s: &[u8], choices: usize, t: &[u8], work: &[u16], answer: &[u32]) -> bool
+fn hand_list<P: Print + Eprint>(
+    rt: &P,
+    s: &[u8],
+    choices: usize,
+    t: &[u8],
+    work: &[u16],
+    answer: &[u32],
+) -> bool
     requires { s.now ≡ list_answer choices t.now work.now answer.now }
 {
-    say(s)
+    say(rt, s)
 }
 
-fn hand_refusal(s: &[u8], why: Refusal) -> bool
+fn hand_refusal<P: Print + Eprint>(rt: &P, s: &[u8], why: Refusal) -> bool
     requires { s.now ≡ refusal_answer why }
 {
-    say(s)
+    say(rt, s)
 }
 
-fn hand_piece(s: &[u8], choices: usize, t: &[u8], k: usize) -> bool
+fn hand_piece<P: Print + Eprint>(rt: &P, s: &[u8], choices: usize, t: &[u8], k: usize) -> bool
     requires { s.now ≡ log_piece choices t.now k }
 {
-    say(s)
+    say(rt, s)
 }
 
 // ---- answers
 
-fn refused(page: &mut [u8], why: Refusal) -> bool
+fn refused<P: Print + Eprint>(rt: &P, page: &mut [u8], why: Refusal) -> bool
     requires { piece_most ≤ length page.old }
 {
     let a = text::refused(page, why);
     let b = page::raw(page, a, b"--\n");
-    hand_refusal(&page[..b], why)
+    hand_refusal(rt, &page[..b], why)
 }
 
-fn list(t: &[u8], choices: usize, work: &mut [u16], answer: &mut [u32], page: &mut [u8]) -> bool
+fn list<P: Print + Eprint>(
+    rt: &P,
+    t: &[u8],
+    choices: usize,
+    work: &mut [u16],
+    answer: &mut [u32],
+    page: &mut [u8],
+) -> bool
     requires { Holds page.old answer.old }
 {
     let mode = crate::choices::mode(choices);
     let a = text::text(t, mode, work, answer, crate::choices::tally(choices), page);
     let b = page::raw(page, a, b"--\n");
-    hand_list(&page[..b], choices, t, work, answer)
+    hand_list(rt, &page[..b], choices, t, work, answer)
 }
 
-fn piece(
+fn piece<P: Print + Eprint>(
+    rt: &P,
     page: &mut [u8],
     choices: usize,
     t: &[u8],
@@ -84,11 +99,12 @@ fn piece(
     requires { Lists (mode_of choices) t.now list.now n tally × Starts t.now starts.now × (k ≤ n + 1) × (piece_most ≤ length page.old) }
 {
     let got = sarif_log::piece(page, t, starts, list, n, tally, k);
-    hand_piece(&page[..got], choices, t, k)
+    hand_piece(rt, &page[..got], choices, t, k)
 }
 
 // One piece after the other.
-fn pieces(
+fn pieces<P: Print + Eprint>(
+    rt: &P,
     page: &mut [u8],
     choices: usize,
     t: &[u8],
@@ -101,16 +117,17 @@ fn pieces(
 {
     let mut k = 0;
     while k <= n + 1 {
-        if !piece(page, choices, t, starts, list, n, tally, k) {
+        if !piece(rt, page, choices, t, starts, list, n, tally, k) {
             return false;
         }
         k += 1;
     }
-    say(b"--\n")
+    say(rt, b"--\n")
 }
 
 // The log of a list, where the output room that was asked for holds it.
-fn measured(
+fn measured<P: Print + Eprint>(
+    rt: &P,
     page: &mut [u8],
     choices: usize,
     t: &[u8],
@@ -124,13 +141,14 @@ fn measured(
 {
     let needed = sarif_log::log(&mut page[..0], t, starts, list, n, tally);
     if other < needed {
-        return refused(page, Refusal::OtherRoom(needed));
+        return refused(rt, page, Refusal::OtherRoom(needed));
     }
-    pieces(page, choices, t, starts, list, n, tally)
+    pieces(rt, page, choices, t, starts, list, n, tally)
 }
 
 // A log is measured only where an output room was asked for: the program has one for every log, a piece at a time.
-fn logged(
+fn logged<P: Print + Eprint>(
+    rt: &P,
     page: &mut [u8],
     choices: usize,
     t: &[u8],
@@ -143,12 +161,13 @@ fn logged(
 {
     let starts = tree::lookup::starts(t);
     if other < ALL {
-        return measured(page, choices, t, &starts, list, n, tally, other);
+        return measured(rt, page, choices, t, &starts, list, n, tally, other);
     }
-    pieces(page, choices, t, &starts, list, n, tally)
+    pieces(rt, page, choices, t, &starts, list, n, tally)
 }
 
-fn log(
+fn log<P: Print + Eprint>(
+    rt: &P,
     t: &[u8],
     choices: usize,
     other: usize,
@@ -162,13 +181,14 @@ fn log(
     let o = a.outcome;
     let counts = a.tally;
     match o {
-        Outcome::Listed(n) => logged(page, choices, t, answer, n, counts, other),
-        Outcome::Refused(why) => refused(page, why),
+        Outcome::Listed(n) => logged(rt, page, choices, t, answer, n, counts, other),
+        Outcome::Refused(why) => refused(rt, page, why),
     }
 }
 
 // A list or a log, as the choices say, in rooms of the sizes that were asked for.
-pub fn serve(
+pub fn serve<P: Print + Eprint>(
+    rt: &P,
     t: &[u8],
     choices: usize,
     rooms: Rooms,
@@ -182,7 +202,15 @@ pub fn serve(
     let r = least(rooms.answer, answer.len());
     let other = rooms.other;
     if crate::choices::log(choices) {
-        return log(t, choices, other, &mut work[..w], &mut answer[..r], page);
+        return log(
+            rt,
+            t,
+            choices,
+            other,
+            &mut work[..w],
+            &mut answer[..r],
+            page,
+        );
     }
-    list(t, choices, &mut work[..w], &mut answer[..r], page)
+    list(rt, t, choices, &mut work[..w], &mut answer[..r], page)
 }

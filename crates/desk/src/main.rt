@@ -6,36 +6,38 @@ ghost use Rattle.desk.specs.Handed.{Holds};
 
 use crate::answers::{ANSWER, PAGE, least, say, serve};
 use crate::reading::{Input, LONGEST, Word};
-use libc::STDERR_FILENO;
 use rules::WORK_WORDS;
+use std::io::Read;
 
 mod answers;
 mod choices;
 mod reading;
 
-fn cut() -> bool {
-    say(b"cut short\n--\n");
+fn cut<P: Print + Eprint>(rt: &P) -> bool {
+    say(rt, b"cut short\n--\n");
     false
 }
 
-fn no_tree(got: Input) -> bool {
+fn no_tree<P: Print + Eprint>(rt: &P, got: Input) -> bool {
     match got {
-        Input::Cut => cut(),
-        Input::Long => say(b"too long\n--\n"),
+        Input::Cut => cut(rt),
+        Input::Long => say(rt, b"too long\n--\n"),
         Input::Whole(_) => true,
     }
 }
 
-fn unknown(got: Input) -> bool {
+fn unknown<P: Print + Eprint>(rt: &P, got: Input) -> bool {
     match got {
-        Input::Cut => cut(),
-        Input::Long => say(b"no such request\n--\n"),
-        Input::Whole(_) => say(b"no such request\n--\n"),
+        Input::Cut => cut(rt),
+        Input::Long => say(rt, b"no such request\n--\n"),
+        Input::Whole(_) => say(rt, b"no such request\n--\n"),
     }
 }
 
 // A request whose choices are read: whether to go on.
-fn asked(
+fn asked<R: Read, P: Print + Eprint>(
+    from: &mut R,
+    rt: &P,
     choices: usize,
     bytes: &mut [u8],
     work: &mut [u16],
@@ -44,55 +46,76 @@ fn asked(
 ) -> bool
     requires { Holds page.old answer.old }
 {
-    let rooms = crate::reading::sizes(choices);
-    let got = crate::reading::inputs(bytes, choices);
+    let rooms = crate::reading::sizes(from, choices);
+    let got = crate::reading::inputs(from, bytes, choices);
     if !crate::choices::known(choices) {
-        return unknown(got);
+        return unknown(rt, got);
     }
     let Input::Whole(n) = got else {
-        return no_tree(got);
+        return no_tree(rt, got);
     };
     let long = least(n, bytes.len());
-    serve(&bytes[..long], choices, rooms, work, answer, page)
+    serve(rt, &bytes[..long], choices, rooms, work, answer, page)
 }
 
-fn over() -> bool {
-    if input::unreadable() {
-        io::write_all(STDERR_FILENO, b"desk: standard input can't be read\n");
+fn over<R: Read, P: Eprint>(from: &mut R, rt: &P) -> bool {
+    if input::unreadable(from) {
+        let _ = rt.eprintln("desk: standard input can't be read");
     }
     false
 }
 
 // The next request, if there is one more.
-fn next(bytes: &mut [u8], work: &mut [u16], answer: &mut [u32], page: &mut [u8]) -> bool
+fn next<R: Read, P: Print + Eprint>(
+    from: &mut R,
+    rt: &P,
+    bytes: &mut [u8],
+    work: &mut [u16],
+    answer: &mut [u32],
+    page: &mut [u8],
+) -> bool
     requires { Holds page.old answer.old }
 {
-    let w = crate::reading::next();
+    let w = crate::reading::next(from);
     match w {
-        Word::Is(choices) => asked(choices, bytes, work, answer, page),
-        Word::Cut => cut(),
-        Word::Over => over(),
+        Word::Is(choices) => asked(from, rt, choices, bytes, work, answer, page),
+        Word::Cut => cut(rt),
+        Word::Over => over(from, rt),
     }
 }
 
 // One request after the other.
-fn requests(bytes: &mut [u8], work: &mut [u16], answer: &mut [u32], page: &mut [u8])
+fn requests<R: Read, P: Print + Eprint>(
+    from: &mut R,
+    rt: &P,
+    bytes: &mut [u8],
+    work: &mut [u16],
+    answer: &mut [u32],
+    page: &mut [u8],
+)
     requires { Holds page.old answer.old }
 {
     let mut left: usize = 18446744073709551615;
     while 0 < left {
         left -= 1;
-        if !next(bytes, work, answer, page) {
+        if !next(from, rt, bytes, work, answer, page) {
             return;
         }
     }
 }
 
 // The rooms stand here, once for all requests.
-fn main() {
+fn main(rt: HostRuntime) {
     let mut bytes = [0u8; LONGEST];
     let mut work = [0u16; WORK_WORDS];
     let mut answer = [0u32; ANSWER];
     let mut page = [0u8; PAGE];
-    requests(&mut bytes, &mut work, &mut answer, &mut page);
+    requests(
+        &mut rt.stdin(),
+        &rt,
+        &mut bytes,
+        &mut work,
+        &mut answer,
+        &mut page,
+    );
 }

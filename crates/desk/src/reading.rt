@@ -1,6 +1,6 @@
-// Requests as they come on standard input.
+// Requests as they come from a reader: standard input.
 
-use libc::STDIN_FILENO;
+use std::io::Read;
 use tree::bytes::u32_at;
 
 // No valid tree is longer: `file_longest` of tree, proofs/Longest.
@@ -33,9 +33,9 @@ pub enum Input {
 }
 
 // 32 bits.
-pub fn next() -> Word {
+pub fn next<R: Read>(from: &mut R) -> Word {
     let mut four = [0u8; 4];
-    let got = io::read_full(STDIN_FILENO, &mut four);
+    let got = input::read_full(from, &mut four);
     if got == 4 {
         return Word::Is(u32_at(&four, 0));
     }
@@ -45,9 +45,9 @@ pub fn next() -> Word {
     Word::Cut
 }
 
-fn sizes_read() -> Rooms {
+fn sizes_read<R: Read>(from: &mut R) -> Rooms {
     let mut four = [0u8; 16];
-    io::read_full(STDIN_FILENO, &mut four);
+    input::read_full(from, &mut four);
     Rooms {
         work: u32_at(&four, 0),
         answer: u32_at(&four, 4),
@@ -56,9 +56,9 @@ fn sizes_read() -> Rooms {
 }
 
 // The sizes that follow, or all that there is.
-pub fn sizes(choices: usize) -> Rooms {
+pub fn sizes<R: Read>(from: &mut R, choices: usize) -> Rooms {
     if crate::choices::rooms(choices) {
-        return sizes_read();
+        return sizes_read(from);
     }
     Rooms {
         work: ALL,
@@ -68,11 +68,11 @@ pub fn sizes(choices: usize) -> Rooms {
 }
 
 // Reads over n bytes; whether they were there.
-fn skip(n: usize) -> bool {
+fn skip<R: Read>(from: &mut R, n: usize) -> bool {
     let mut left = n;
     while 0 < left {
         let mut some = [0u8; 65536];
-        let got = input::take_in(&mut some, left);
+        let got = input::take_in(from, &mut some, left);
         if got == 0 {
             return false;
         }
@@ -84,49 +84,49 @@ fn skip(n: usize) -> bool {
     true
 }
 
-fn long(n: usize) -> Input {
-    if skip(n) {
+fn long<R: Read>(from: &mut R, n: usize) -> Input {
+    if skip(from, n) {
         return Input::Long;
     }
     Input::Cut
 }
 
-fn taken(bytes: &mut [u8], n: usize) -> Input {
+fn taken<R: Read>(from: &mut R, bytes: &mut [u8], n: usize) -> Input {
     if bytes.len() < n {
-        return long(n);
+        return long(from, n);
     }
-    if input::take_in(bytes, n) < n {
+    if input::take_in(from, bytes, n) < n {
         return Input::Cut;
     }
     Input::Whole(n)
 }
 
 // An input after its length.
-fn first(bytes: &mut [u8]) -> Input {
-    let w = next();
+fn first<R: Read>(from: &mut R, bytes: &mut [u8]) -> Input {
+    let w = next(from);
     match w {
-        Word::Is(n) => taken(bytes, n),
+        Word::Is(n) => taken(from, bytes, n),
         Word::Cut => Input::Cut,
         Word::Over => Input::Cut,
     }
 }
 
-fn second() -> bool {
-    let w = next();
+fn second<R: Read>(from: &mut R) -> bool {
+    let w = next(from);
     match w {
-        Word::Is(n) => skip(n),
+        Word::Is(n) => skip(from, n),
         Word::Cut => false,
         Word::Over => false,
     }
 }
 
 // The first input. A second one is read over: no choice that is known has one.
-pub fn inputs(bytes: &mut [u8], choices: usize) -> Input {
-    let got = first(bytes);
+pub fn inputs<R: Read>(from: &mut R, bytes: &mut [u8], choices: usize) -> Input {
+    let got = first(from, bytes);
     if !crate::choices::second(choices) {
         return got;
     }
-    if second() {
+    if second(from) {
         return got;
     }
     Input::Cut

@@ -5,7 +5,6 @@ ghost use Rattle.std.specs.Prelude.{◌≡◌, false};
 ghost use Rattle.tree.specs.declared.Mode.TheVariants.{Ordinary};
 ghost use Rattle.text.specs.Text.{text_of};
 
-use libc::{STDERR_FILENO, STDIN_FILENO, STDOUT_FILENO};
 use rules::{WIDTH, WORK_WORDS};
 use tree::Mode;
 
@@ -15,37 +14,38 @@ const ANSWER: usize = WIDTH * 2048;
 // Bytes for every text of a call with that much answer room.
 const PAGE: usize = 11 * ANSWER + 400;
 
-fn say(s: &[u8]) {
-    if !io::write_all(STDOUT_FILENO, s) {
-        io::write_all(STDERR_FILENO, b"standard output can't be written\n");
+fn say<P: Print + Eprint>(rt: &P, s: &[u8]) {
+    if rt.write_all(s).is_err() {
+        let _ = rt.eprintln("standard output can't be written");
     }
 }
 
 // Handed to the write call: the text of the joined call on t, lent rooms as long as these.
-fn hand(s: &[u8], t: &[u8], work: &[u16], answer: &[u32])
+fn hand<P: Print + Eprint>(rt: &P, s: &[u8], t: &[u8], work: &[u16], answer: &[u32])
     requires { s.now ≡ text_of false Ordinary t.now work.now answer.now }
 {
-    say(s);
+    say(rt, s);
 }
 
-fn list(t: &[u8]) {
+fn list<P: Print + Eprint>(rt: &P, t: &[u8]) {
     let mut work = [0u16; WORK_WORDS];
     let mut answer = [0u32; ANSWER];
     let mut page = [0u8; PAGE];
     let n = text::text(t, Mode::Ordinary, &mut work, &mut answer, false, &mut page);
-    hand(&page[..n], t, &work, &answer);
+    hand(rt, &page[..n], t, &work, &answer);
 }
 
-fn main() {
+fn main(rt: HostRuntime) {
+    let mut from = rt.stdin();
     let mut bytes = [0u8; 49153];
-    let got = io::read_full(STDIN_FILENO, &mut bytes);
+    let got = input::read_full(&mut from, &mut bytes);
     if 49152 < got {
-        say(b"too long\n");
+        say(&rt, b"too long\n");
         return;
     }
-    if input::unreadable() {
-        io::write_all(STDERR_FILENO, b"standard input can't be read\n");
+    if input::unreadable(&mut from) {
+        let _ = rt.eprintln("standard input can't be read");
         return;
     }
-    list(&bytes[..got]);
+    list(&rt, &bytes[..got]);
 }

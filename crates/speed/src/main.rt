@@ -3,8 +3,8 @@
 // 2 flow, 3 incompatible, 4 dubious, 5 the joined call. compare/speed is the same over the Rust.
 #![tactic(auto)]
 
-use libc::STDOUT_FILENO;
 use rules::{Answer, CODES, Outcome, WIDTH, WORK_WORDS};
+use std::io::Read;
 use tree::Mode;
 
 // The words of 2,048 records.
@@ -54,38 +54,40 @@ fn repeat(part: usize, repeats: usize, t: &[u8], work: &mut [u16], out: &mut [u3
     last
 }
 
-fn file(part: usize, repeats: usize, t: &[u8]) {
+fn file<P: Print>(rt: &P, part: usize, repeats: usize, t: &[u8]) {
     let mut work = [0u16; WORK_WORDS];
     let mut out = [0u32; ROOM];
     let n = repeat(part, repeats, t, &mut work, &mut out);
-    io::print_decimal(STDOUT_FILENO, n as u64);
-    io::write_all(STDOUT_FILENO, b"\n");
+    let _ = rt.println(n);
 }
 
 // The next file, if there is one more.
-fn next(part: usize, repeats: usize) -> bool {
+fn next<R: Read, P: Print>(from: &mut R, rt: &P, part: usize, repeats: usize) -> bool {
     let mut head = [0u8; 4];
     let mut bytes = [0u8; 200000];
-    if io::read_full(0, &mut head) < 4 {
+    if input::read_full(from, &mut head) < 4 {
         return false;
     }
-    let got = input::take_in(&mut bytes, tree::bytes::u32_at(&head, 0));
-    file(part, repeats, &bytes[..got]);
+    let got = input::take_in(from, &mut bytes, tree::bytes::u32_at(&head, 0));
+    file(rt, part, repeats, &bytes[..got]);
     true
 }
 
-fn files(part: usize, repeats: usize) {
+fn files<R: Read, P: Print>(from: &mut R, rt: &P, part: usize, repeats: usize) {
     let mut left: usize = 1000000;
     while 0 < left {
         left -= 1;
-        if !next(part, repeats) {
+        if !next(from, rt, part, repeats) {
             return;
         }
     }
 }
 
-fn main() {
+fn main(rt: HostRuntime) {
+    let mut from = rt.stdin();
     let mut head = [0u8; 8];
-    io::read_full(0, &mut head);
-    files(tree::bytes::u32_at(&head, 0), tree::bytes::u32_at(&head, 4));
+    input::read_full(&mut from, &mut head);
+    let part = tree::bytes::u32_at(&head, 0);
+    let repeats = tree::bytes::u32_at(&head, 4);
+    files(&mut from, &rt, part, repeats);
 }
