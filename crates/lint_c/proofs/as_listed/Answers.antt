@@ -1,5 +1,4 @@
 -- By the outcome. Assumes nothing.
-use borrow.Author.Rules.{rules}
 use Rattle.lint_c.proofs.as_listed.Goals as goal
 
 pub returns-in-Logged : goal.returns-in-Logged

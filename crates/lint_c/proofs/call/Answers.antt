@@ -1,6 +1,5 @@
 -- What is called, from the joined call and what is told of its answer. Assumes nothing.
 use Rattle.lint_c.proofs.Laws.{told}
-use borrow.Author.Rules.{rules}
 use Rattle.lint_c.proofs.call.Goals as goal
 
 pub returns : goal.returns

@@ -1,7 +1,6 @@
 -- Above 17 there is no code. Assumes nothing.
 use mathlib.Core.Path.{sym}
 use native.Mathlib.Omega.{arith}
-use borrow.Author.Rules.{rules}
 use Rattle.codes.proofs.Padded.{no_name}
 use Rattle.rules.specs.Codes.{short_name}
 use Rattle.lint_c.proofs.Laws.{no_code}

@@ -1,10 +1,9 @@
 -- The loop has laid k words. Assumes nothing.
-use Prim.Native.Nat.{ℕ, ◌-◌, ◌≤◌, min}
+use Prim.Native.Nat.{ℕ, min}
 use mathlib.Core.Path.{◌≡◌, refl, ap, ◌∙◌}
 use mathlib.Core.List.{List, ◌∷◌}
 use native.Mathlib.Omega.{arith}
 use lib.ListN.{length, get_or, set, length-set}
-use borrow.Author.Rules.{rules}
 use Rattle.lint_c.specs.Face.{over, laid}
 use Rattle.lint_c.proofs.Laws.{over_more, over_none}
 use Rattle.lint_c.proofs.lay.Goals as goal

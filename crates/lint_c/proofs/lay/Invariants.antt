@@ -1,11 +1,8 @@
-use Prim.Native.Nat.{ℕ, ◌-◌, ◌≤◌, min}
-use mathlib.Core.Path.{◌≡◌, refl, ap, ◌∙◌}
-use mathlib.Core.List.{List, ◌∷◌}
-use native.Mathlib.Omega.{arith}
-use lib.ListN.{length, get_or, set, length-set}
-use borrow.Author.Rules.{rules}
-use Rattle.lint_c.specs.Face.{over, laid}
-use Rattle.lint_c.proofs.Laws.{over_more, over_none}
+use Prim.Native.Nat.{◌-◌, ◌≤◌}
+use mathlib.Core.Path.{◌≡◌}
+use mathlib.Core.List.{◌∷◌}
+use lib.ListN.{length}
+use Rattle.lint_c.specs.Face.{over}
 use Rattle.lint_c.proofs.lay.Given as goal
 
 abbrev pub invariant-loop-k : goal.invariant-loop-k

@@ -6,7 +6,6 @@ use native.Mathlib.Omega.{arith}
 use lib.Seq.{set_out}
 use Rattle.rules.specs.Joined.{codes}
 use Rattle.lint_c.proofs.Laws.{laid_more}
-use borrow.Author.Rules.{rules}
 use Rattle.lint_c.proofs.lay_log.Goals as goal
 
 pub returns-then-report-gt-REPORT : goal.returns-then-report-gt-REPORT

@@ -1,6 +1,5 @@
 -- What is called, from the log's call and what is told of its answer. Assumes nothing.
 use Rattle.lint_c.proofs.Laws.{logged}
-use borrow.Author.Rules.{rules}
 use Rattle.lint_c.proofs.log_call.Goals as goal
 
 pub returns : goal.returns

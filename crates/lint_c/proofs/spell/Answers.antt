@@ -1,10 +1,9 @@
 -- The loop has laid k bytes. Assumes nothing.
-use Prim.Native.Nat.{ℕ, ◌-◌, ◌≤◌}
+use Prim.Native.Nat.{ℕ}
 use mathlib.Core.Path.{◌≡◌, refl, ap, ◌∙◌}
 use mathlib.Core.List.{List}
 use native.Mathlib.Omega.{arith}
-use lib.ListN.{length, get_or, set, length-set}
-use borrow.Author.Rules.{rules}
+use lib.ListN.{get_or, set, length-set}
 use Rattle.lint_c.specs.Face.{over}
 use Rattle.lint_c.proofs.Laws.{over_more, over_none}
 use Rattle.lint_c.proofs.spell.Goals as goal

@@ -3,7 +3,6 @@ use Prim.Native.Nat.{ℕ}
 use mathlib.Core.List.{[], ◌∷◌, ◌++◌}
 use mathlib.Core.Path.{◌≡◌, ap, ◌∙◌}
 use Rattle.lint_c.specs.Face.{number_of, place_of, laid, as_listed}
-use borrow.Author.Rules.{rules}
 use Rattle.lint_c.proofs.tell_log.Goals as goal
 
 pub returns : goal.returns

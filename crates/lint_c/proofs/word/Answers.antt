@@ -4,7 +4,6 @@ use mathlib.Core.Path.{◌≡◌, sym, ap}
 use mathlib.Core.List.{◌∷◌}
 use native.Mathlib.Omega.{arith}
 use lib.ListN.{get_or, get_or-eq_default}
-use borrow.Author.Rules.{rules}
 use Rattle.lint_c.proofs.word.Goals as goal
 
 pub returns-then-k-lt1 : goal.returns-then-k-lt1

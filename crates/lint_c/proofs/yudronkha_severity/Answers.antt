@@ -1,6 +1,5 @@
 -- The code's severity, by number. Assumes nothing.
 use mathlib.Core.Path.{ap, ◌∙◌}
-use borrow.Author.Rules.{rules}
 use Rattle.codes.specs.Named.{severity_of}
 use Rattle.lint_c.specs.Face.{numbered}
 use Rattle.lint_c.proofs.yudronkha_severity.Goals as goal

@@ -2,7 +2,6 @@
 use mathlib.Core.Path.{◌≡◌, ap, ◌∙◌}
 use native.Mathlib.Omega.{arith}
 use lib.ListN.{length}
-use borrow.Author.Rules.{rules}
 use Rattle.rules.specs.Codes.{short_name}
 use Rattle.codes.specs.Named.{named}
 use Rattle.codes.specs.declared.ShortName.{ShortName}

@@ -1,8 +1,7 @@
-use lib.ListN.{length, take, drop, set, get_or, length-set}
+use lib.ListN.{set, get_or, length-set}
 use Rattle.codes.proofs.Padded.{copy_next}
-use borrow.Author.Rules.{rules}
-use Prim.Native.Nat.{ℕ, ◌-◌, ◌≤◌}
-use mathlib.Core.List.{List, ◌++◌}
+use Prim.Native.Nat.{ℕ}
+use mathlib.Core.List.{List}
 use mathlib.Core.Path.{◌≡◌, refl, ap, ◌∙◌}
 use native.Mathlib.Omega.{arith}
 use Rattle.sarif.proofs.copy.Goals as goal

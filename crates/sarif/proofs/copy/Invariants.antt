@@ -1,10 +1,7 @@
-use lib.ListN.{length, take, drop, set, get_or, length-set}
-use Rattle.codes.proofs.Padded.{copy_next}
-use borrow.Author.Rules.{rules}
-use Prim.Native.Nat.{ℕ, ◌-◌, ◌≤◌}
-use mathlib.Core.List.{List, ◌++◌}
-use mathlib.Core.Path.{◌≡◌, refl, ap, ◌∙◌}
-use native.Mathlib.Omega.{arith}
+use lib.ListN.{length, take, drop}
+use Prim.Native.Nat.{◌-◌, ◌≤◌}
+use mathlib.Core.List.{◌++◌}
+use mathlib.Core.Path.{◌≡◌}
 use Rattle.sarif.proofs.copy.Given as goal
 
 abbrev pub invariant-loop-i : goal.invariant-loop-i

@@ -2,7 +2,6 @@ use Rattle.sarif.proofs.Telling.{found_all, called_listed, called_refused}
 use Prim.Native.Nat.{ℕ, ◌*◌}
 use Rattle.rules.specs.Record.{width}
 use lib.ListN.{replicate, length-replicate}
-use borrow.Author.Rules.{rules}
 use Rattle.sarif.proofs.sarif.Goals as goal
 
 pub tell-requires : goal.tell-requires

@@ -4,7 +4,6 @@ use Prim.Native.Nat.{◌*◌, ◌≤◌}
 use native.Mathlib.Nat.{le-div_iff_mul-le}
 use native.Mathlib.Omega.{arith}
 use Rattle.rules.specs.Record.{width}
-use borrow.Author.Rules.{rules}
 use Rattle.sarif.proofs.tell.Goals as goal
 
 pub returns-then-answer-n : goal.returns-then-answer-n

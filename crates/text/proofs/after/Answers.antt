@@ -3,7 +3,6 @@ use native.Mathlib.Omega.{arith}
 use Rattle.page.proofs.Pages.{retold}
 use Rattle.text.specs.Pieces.{end_of}
 use mathlib.Core.List.{◌∷◌}
-use borrow.Author.Rules.{rules}
 use Rattle.text.proofs.after.Goals as goal
 
 pub returns-then-last : goal.returns-then-last

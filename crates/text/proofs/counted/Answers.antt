@@ -4,7 +4,6 @@ use Prim.Native.Nat.{◌+◌}
 use lib.Dec.{eqb}
 use lib.ListN.{length, get_or}
 use Rattle.text.proofs.Lines.{ended_wrote}
-use borrow.Author.Rules.{rules}
 use Rattle.text.proofs.counted.Goals as goal
 
 pub returns : goal.returns

@@ -1,14 +1,13 @@
 -- What is left to be written is the line of what is left of the counts. Assumes nothing.
-use Prim.Native.Nat.{◌+◌, ◌*◌, ◌-◌, ◌≤◌}
+use Prim.Native.Nat.{◌+◌, ◌*◌}
 use native.Mathlib.Omega.{arith}
-use mathlib.Core.Path.{◌≡◌, refl}
+use mathlib.Core.Path.{refl}
 use lib.Dec.{eqb}
 use lib.ListN.{length, get_or, drop}
-use Rattle.page.proofs.Going.{Going, going_first, going_next, going_last}
+use Rattle.page.proofs.Going.{going_first, going_next, going_last}
 use Rattle.text.specs.Text.{line}
 use Rattle.text.specs.Pieces.{ended}
 use Rattle.text.proofs.Lines.{line_next, line_end}
-use borrow.Author.Rules.{rules}
 use Rattle.text.proofs.counts.Goals as goal
 
 pub loop-k-init : goal.loop-k-init

@@ -1,13 +1,8 @@
-use Prim.Native.Nat.{◌+◌, ◌*◌, ◌-◌, ◌≤◌}
-use native.Mathlib.Omega.{arith}
-use mathlib.Core.Path.{◌≡◌, refl}
-use lib.Dec.{eqb}
-use lib.ListN.{length, get_or, drop}
-use Rattle.page.proofs.Going.{Going, going_first, going_next, going_last}
+use Prim.Native.Nat.{◌*◌, ◌-◌, ◌≤◌}
+use mathlib.Core.Path.{◌≡◌}
+use lib.ListN.{length, drop}
+use Rattle.page.proofs.Going.{Going}
 use Rattle.text.specs.Text.{line}
-use Rattle.text.specs.Pieces.{ended}
-use Rattle.text.proofs.Lines.{line_next, line_end}
-use borrow.Author.Rules.{rules}
 use Rattle.text.proofs.counts.Given as goal
 
 abbrev pub invariant-loop-k : goal.invariant-loop-k

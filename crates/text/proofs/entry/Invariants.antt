@@ -1,15 +1,10 @@
-use Prim.Native.Nat.{◌+◌, ◌*◌, ◌-◌, ◌≤◌}
-use native.Mathlib.Omega.{arith}
-use mathlib.Core.Path.{◌≡◌, refl}
-use lib.Dec.{eqb}
-use lib.ListN.{length, get_or, drop}
-use Rattle.page.proofs.Going.{Going, going_first, going_next, going_last}
+use Prim.Native.Nat.{◌*◌, ◌-◌, ◌≤◌}
+use mathlib.Core.Path.{◌≡◌}
+use lib.ListN.{length, drop}
+use Rattle.page.proofs.Going.{Going}
 use Rattle.rules.specs.Record.{words, width}
 use Rattle.rules.specs.Afterwards.{record_in}
 use Rattle.text.specs.Text.{line}
-use Rattle.text.specs.Pieces.{ended}
-use Rattle.text.proofs.Lines.{record_next, line_end}
-use borrow.Author.Rules.{rules}
 use Rattle.text.proofs.entry.Given as goal
 
 abbrev pub invariant-loop-k : goal.invariant-loop-k

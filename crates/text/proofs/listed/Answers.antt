@@ -1,6 +1,5 @@
 -- The records, then total and their count. Assumes nothing.
 use Rattle.text.proofs.Lines.{listing_wrote}
-use borrow.Author.Rules.{rules}
 use Rattle.text.proofs.listed.Goals as goal
 
 pub returns : goal.returns

@@ -1,14 +1,13 @@
 -- What is left to be written is the lines of what is left of the records. Assumes nothing.
-use Prim.Native.Nat.{◌+◌, ◌*◌, ◌-◌, ◌≤◌}
+use Prim.Native.Nat.{◌+◌, ◌*◌, ◌-◌}
 use native.Mathlib.Omega.{arith}
 use mathlib.Core.Path.{◌≡◌, refl}
-use lib.ListN.{length, drop}
-use Rattle.page.proofs.Going.{Going, going_first, going_next, going_last}
+use lib.ListN.{drop}
+use Rattle.page.proofs.Going.{going_first, going_next, going_last}
 use Rattle.rules.specs.Record.{words, width}
 use Rattle.rules.specs.Afterwards.{record_in, records_in}
 use Rattle.text.specs.Text.{line, records}
 use Rattle.text.proofs.Lines.{records_next, records_end}
-use borrow.Author.Rules.{rules}
 use Rattle.text.proofs.records.Goals as goal
 
 pub loop-r-init : goal.loop-r-init

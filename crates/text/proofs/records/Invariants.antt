@@ -1,13 +1,10 @@
-use Prim.Native.Nat.{◌+◌, ◌*◌, ◌-◌, ◌≤◌}
-use native.Mathlib.Omega.{arith}
-use mathlib.Core.Path.{◌≡◌, refl}
+use Prim.Native.Nat.{◌*◌, ◌-◌, ◌≤◌}
+use mathlib.Core.Path.{◌≡◌}
 use lib.ListN.{length, drop}
-use Rattle.page.proofs.Going.{Going, going_first, going_next, going_last}
-use Rattle.rules.specs.Record.{words, width}
-use Rattle.rules.specs.Afterwards.{record_in, records_in}
-use Rattle.text.specs.Text.{line, records}
-use Rattle.text.proofs.Lines.{records_next, records_end}
-use borrow.Author.Rules.{rules}
+use Rattle.page.proofs.Going.{Going}
+use Rattle.rules.specs.Record.{width}
+use Rattle.rules.specs.Afterwards.{records_in}
+use Rattle.text.specs.Text.{records}
 use Rattle.text.proofs.records.Given as goal
 
 abbrev pub invariant-loop-r : goal.invariant-loop-r

@@ -1,6 +1,5 @@
 -- Number and place on a line. Assumes nothing.
 use Rattle.text.proofs.Lines.{refused_wrote}
-use borrow.Author.Rules.{rules}
 use Rattle.text.proofs.refused.Goals as goal
 
 pub returns : goal.returns

@@ -1,6 +1,5 @@
 -- The list with its counts, or the refusal. Assumes nothing.
 use Rattle.text.proofs.Told.{room_for, text_listed, text_refused}
-use borrow.Author.Rules.{rules}
 use Rattle.text.proofs.text.Goals as goal
 
 pub listed-at-requires : goal.listed-at-requires

@@ -5,7 +5,6 @@ use lib.Dec.{eqb}
 use lib.ListN.{get_or}
 use Rattle.rules.specs.Record.{width}
 use Rattle.text.proofs.Lines.{ended_wrote}
-use borrow.Author.Rules.{rules}
 use Rattle.text.proofs.word.Goals as goal
 
 pub returns : goal.returns
