@@ -2,7 +2,7 @@
 use Prim.Native.Nat.{ℕ, ◌+◌, ◌*◌, ◌≤◌, min}
 use native.Mathlib.Omega.{arith}
 use native.Mathlib.Nat.{min-le_right}
-use mathlib.Core.Path.{◌≡◌, refl, sym, ap, ap₂, ◌∙◌}
+use mathlib.Core.Path.{◌≡◌, sym, ap, ap₂, ◌∙◌}
 use mathlib.Core.Bool.{Bool}
 use mathlib.Core.List.{List, ◌++◌, append_assoc}
 use lib.ListN.{length, take}
@@ -19,7 +19,7 @@ use Rattle.rules.proofs.Called.{room_where_listed}
 use Rattle.lint.proofs.Demands.{profiled_records, profiled_counts}
 use Rattle.page.specs.Page.{Wrote}
 use Rattle.page.proofs.Pages.{then, retold, stands}
-use Rattle.text.specs.Text.{refused, text_of, Done, text_call}
+use Rattle.text.specs.Text.{refused, text_of, text_call}
 use Rattle.text.proofs.Promised.{text_ended}
 use Rattle.sarif_log.specs.Pieces.{piece_most, piece_of}
 use Rattle.sarif_log.proofs.Listed.{listed_small}

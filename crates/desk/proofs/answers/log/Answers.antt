@@ -9,6 +9,6 @@ logged-requires g c =
     let a = c.args in
     let made = c.profiled-a in (
       lists a.choices a.t.now a.work.now a.answer.now c.profile.result c.mode-mode.result c.profile.ensures c.mode-mode.ensures
-      (in_full made.result) made.new.out made.new.work made.ensures c.in-Listed.n c.in-Listed.is,
+          (in_full made.result) made.new.out made.new.work made.ensures c.in-Listed.n c.in-Listed.is,
       omega (arith, c.requires),
     )
