@@ -1,8 +1,9 @@
 """The proved programs. Before one is run its sources are held against those that it was proved of; where they differ it is
-proved and built again by `rt check`, with progress on standard error.
+proved and built again by `rt run`, with progress on standard error, and tried on its crate's stdin and stdout.
 
-target/run/PROGRAM has what was proved: a hash of the sources (as rt's stamps: the kit, the machine, crates.txt, the files of
-each crate that the program reaches) and one of the program itself.
+target/bin/PROGRAM is the program as it was built, so that no other build changes one that runs. target/run/PROGRAM has what was
+proved: a hash of the sources (as rt's stamps: the kit, the machine, crates.txt, the files of each crate that the program reaches)
+and one of the program itself. target/log/PROGRAM.out and .stdout have what rt said and what the program printed when it was tried.
 """
 import contextlib
 import fcntl
@@ -21,8 +22,11 @@ from ends import Stopped, printable, say, tell
 
 ROOT = pathlib.Path(__file__).resolve().parent.parent
 TARGET = ROOT / "target"
-PARTS = ("src", "specs", "proofs", "stdin", "stdout", "args", "data")
-VERDICT = re.compile(r"rt: (\w+) (NOT PROVED|proved, and its run FAILED|proved)(.*)")
+PARTS = ("src", "specs", "proofs", "stdin", "stdout", "args", "data", "status")
+# rt's lines: a crate is begun, and what came of it; the program is built and run; what rt waits for.
+BEGUN = re.compile(r"rt: chose --jobs \d+ for (\w+)")
+PROVED, NOT_PROVED = "logic=proved ", "logic=not-proved"
+BUILT, WAITING = "rt: running out/", "rt: waiting for another rt"
 
 
 def home():
@@ -39,18 +43,23 @@ def home():
 def listed():
     """crates.txt: the crates that each crate depends on."""
     lines = (line.split("#")[0].partition(":") for line in (ROOT / "crates.txt").read_text().splitlines())
-    return {name.strip(): rest.split() for name, colon, rest in lines if colon}
+    # Words after the name, as staticlib, are no part of it.
+    return {head.split()[0]: rest.split() for head, _, rest in lines if head.strip()}
 
 
 def reached(program):
-    """The crates of the repository that a program is made of, with their dependencies."""
-    crates, todo, found = listed(), [program], {}
-    while todo:
-        name = todo.pop()
-        if name in crates and name not in found:
+    """The crates of the repository that a program is made of, with their dependencies, in the order in which rt proves them."""
+    crates, met, found = listed(), set(), {}
+
+    def reach(name):
+        if name in crates and name not in met:
+            met.add(name)
+            for below in crates[name]:
+                reach(below)
             found[name] = crates[name]
-            todo += crates[name]
-    return dict(sorted(found.items()))
+
+    reach(program)
+    return found
 
 
 def files(path):
@@ -71,10 +80,19 @@ def sources(program):
     lines = [hash_of(home() / "KIT-ID"), os.uname().machine]
     for name, needs in reached(program).items():
         lines.append(f"{name}: {needs}")
-        crate = os.path.join(ROOT, "crates", name, "")
+        crate = os.path.join(crate_of(name), "")
         for part in PARTS:
             lines += [f"{path[len(crate):]} {hash_of(path)}" for path in sorted(files(crate + part))]
     return hashlib.sha256("\n".join(lines).encode("utf-8", "surrogateescape")).hexdigest()
+
+
+def crate_of(program):
+    return ROOT / "crates" / program
+
+
+def made(program):
+    """The program where rt builds it."""
+    return crate_of(program) / "out" / program
 
 
 def binary(program):
@@ -100,19 +118,19 @@ class Progress:
     """Crate by crate, how many of how many, and the time: on a terminal one line that is rewritten, else a line a crate."""
 
     def __init__(self, program):
-        self.program, self.count = program, len(reached(program))
+        self.program, self.order = program, list(reached(program))
         self.done, self.began = 0, time.monotonic()
         self.last = ""
         self.live = bool(sys.stderr) and sys.stderr.isatty() and os.environ.get("TERM") != "dumb"
 
     def state(self, last):
         minutes, seconds = divmod(int(time.monotonic() - self.began), 60)
-        return f"{self.program}: {self.done} of {self.count} crates, {minutes}:{seconds:02}, {last}"
+        return f"{self.program}: {self.done} of {len(self.order)} crates, {minutes}:{seconds:02}, {last}"
 
-    def crate(self, name, how):
-        self.done, self.last = self.done + 1, f"{name} {how}"
-        # Of a crate that rt kept the count is enough.
-        if not self.live and "unchanged" not in how:
+    def crate(self, name, seconds):
+        # Of the crates before it that rt kept, and says nothing of, the count is enough.
+        self.done, self.last = self.order.index(name) + 1, f"{name} proved ({int(seconds)} s)"
+        if not self.live:
             say(self.state(self.last))
 
     def tick(self):
@@ -126,8 +144,8 @@ class Progress:
 
 
 def lines_of(process):
-    """A process' lines as they come, and an empty one for each second without."""
-    number, rest = process.stdout.fileno(), b""
+    """What a process says, its lines as they come, and an empty one for each second without."""
+    number, rest = process.stderr.fileno(), b""
     while True:
         if not select.select([number], [], [], 1)[0]:
             yield ""
@@ -140,16 +158,15 @@ def lines_of(process):
 
 
 @contextlib.contextmanager
-def started(words, lock):
-    """A process with all that it starts in a group of its own, which ends with this command."""
+def started(words, folder, lock, given, out):
+    """A process in a group of its own, which ends with this command; rt ends all that it started when it ends."""
 
     def leave(number, _):
         raise SystemExit(128 + number)
 
-    # The lock goes with the process: it holds until the last of the group ends.
+    # The lock goes with the process: it holds until rt ends.
     process = subprocess.Popen(
-        words, cwd=ROOT, stdin=subprocess.DEVNULL, stdout=subprocess.PIPE, stderr=subprocess.STDOUT, pass_fds=[lock],
-        start_new_session=True,
+        words, cwd=folder, stdin=given, stdout=out, stderr=subprocess.PIPE, pass_fds=[lock], start_new_session=True,
     )
     ends = (signal.SIGINT, signal.SIGTERM, signal.SIGHUP)
     before = {number: signal.signal(number, leave) for number in ends if signal.getsignal(number) != signal.SIG_IGN}
@@ -164,43 +181,83 @@ def started(words, lock):
             signal.signal(number, action)
 
 
-def verdicts(process, shown):
-    """What rt says: the crates that failed, each with rt's words, and its last lines."""
-    failed, said = [], []
-    for line in lines_of(process):
-        said = [*said, line][-3:] if line else said
-        found = VERDICT.match(line)
-        if found and found[2] == "proved":
-            shown.crate(found[1], found[2] + found[3])
-        elif found and "its dependency" not in found[3]:
-            failed.append(why(found[1], found[2]))
-        shown.tick()
-    return failed, said
+class Said:
+    """What rt says: the crate that it is at and since when, the one that it could not prove, whether it got to run the program, and
+    its last lines."""
+
+    def __init__(self):
+        self.crate, self.began = None, 0
+        self.failed, self.built = None, False
+        self.last = []
+
+    def take(self, line, shown):
+        self.last = [*self.last, line][-3:]
+        begun = BEGUN.match(line)
+        if begun:
+            self.crate, self.began = begun[1], time.monotonic()
+        elif line.startswith(PROVED) and self.crate in shown.order:
+            shown.crate(self.crate, time.monotonic() - self.began)
+        elif line.startswith(NOT_PROVED):
+            self.failed = self.crate
+        elif line.startswith(BUILT):
+            self.built = True
+        elif line.startswith(WAITING):
+            shown.clear()
+            say(line)
 
 
-def why(crate, verdict):
-    log = TARGET / "log" / crate
-    if verdict == "NOT PROVED":
-        return f"crate {crate} is NOT PROVED ({log}.out has why)"
-    return f"crate {crate} is proved, and its test failed ({log}.stdout has what it wrote)"
+def log(program, kind):
+    return TARGET / "log" / f"{program}.{kind}"
+
+
+def opened(path):
+    """A file of a crate, or nothing where there is none."""
+    return open(path if path.is_file() else os.devnull, "rb")
 
 
 def check(program, lock):
-    """`rt check` of a program, with progress; Stopped where that fails."""
-    shown = Progress(program)
-    with started(["rt", "check", program], lock) as process:
-        try:
-            failed, said = verdicts(process, shown)
-        finally:
-            shown.clear()
-    if failed or process.returncode:
-        raise Stopped(f"{program} is not run: " + ("; ".join(failed) or "rt check failed:\n" + "\n".join(said)))
+    """`rt run` of a program, on its crate's stdin, with progress; Stopped where that fails."""
+    crate, shown, said = crate_of(program), Progress(program), Said()
+    with contextlib.ExitStack() as files:
+        given = files.enter_context(opened(crate / "stdin"))
+        out = files.enter_context(open(log(program, "stdout"), "wb"))
+        whole = files.enter_context(open(log(program, "out"), "w", encoding="utf-8"))
+        process = files.enter_context(started(["rt", "run"], crate, lock, given, out))
+        files.callback(shown.clear)
+        for line in lines_of(process):
+            if line:
+                print(line, file=whole, flush=True)
+                said.take(line, shown)
+            shown.tick()
+    why = fault(program, said, process.returncode)
+    if why:
+        raise Stopped(f"{program} is not run: {why}")
     say(shown.state("proved and built"))
+
+
+def fault(program, said, status):
+    """Why a program isn't taken for proved, built and right, or None."""
+    if said.failed:
+        return f"crate {said.failed} is NOT PROVED ({log(program, 'out')} has why)"
+    if not said.built:
+        return f"rt run failed ({log(program, 'out')} has all of it):\n" + "\n".join(said.last)
+    with opened(crate_of(program) / "stdout") as wanted, opened(crate_of(program) / "status") as ends:
+        if log(program, "stdout").read_bytes() != wanted.read() or status != int(ends.read() or 0):
+            return f"crate {program} is proved, and its test failed ({log(program, 'stdout')} has what it wrote)"
+    return None
+
+
+def keep(program):
+    """The program that rt built, put in the place of the one that is kept; one that runs goes on."""
+    part = TARGET / "run" / f"{program}.part"
+    shutil.copy(made(program), part)
+    os.replace(part, binary(program))
 
 
 def lock_file():
     try:
-        (TARGET / "run").mkdir(parents=True, exist_ok=True)
+        for folder in ("bin", "log", "run"):
+            (TARGET / folder).mkdir(parents=True, exist_ok=True)
         return open(TARGET / "run" / "lock", "ab")
     except OSError as why:
         raise Stopped(f"a program must be proved and built first, and {TARGET} can't be written: {why.strerror}") from None
@@ -219,7 +276,7 @@ def locked():
 
 
 def reason(program, now, known):
-    if not binary(program).is_file():
+    if not made(program).is_file():
         return f"{program} is not built yet: it is proved and built first, which takes minutes"
     if not known:
         return f"{program}: seeing that it is proved of these sources; what is not is proved first, which may take minutes"
@@ -231,16 +288,14 @@ def prove(program, lock):
     now, known = sources(program), record(program)
     say(reason(program, now, known))
     (TARGET / "run" / program).unlink(missing_ok=True)
-    # rt goes by its stamp and doesn't look at the program: one that is missing or was changed is to be built anew.
-    if not binary(program).is_file() or known[:1] == [now]:
-        (TARGET / "stamp" / program).unlink(missing_ok=True)
     check(program, lock)
+    keep(program)
     if sources(program) == now:
         (TARGET / "run" / program).write_text(f"{now}\n{hash_of(binary(program))}\n")
 
 
 def programs():
-    return [name for name in listed() if (ROOT / "crates" / name / "src" / "main.rt").is_file()]
+    return [name for name in listed() if (crate_of(name) / "src" / "main.rt").is_file()]
 
 
 def ready(program):
