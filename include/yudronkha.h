@@ -1,7 +1,7 @@
 /* Yudronkha: the lint of Starlark tree files, for C and C++. docs/TREE.md says what a tree file is. Every call that takes one takes
  * both versions, 1 and 2 (of scripts that declare dialect 2); they have one layout, and differ in code 15 alone.
  *
- * Link with liblint_c.a, which `rt staticlib lint_c` writes to target/staticlib/: code for x86-64 Linux under the System V
+ * Link with liblint_c.a, which `rt lib` in crates/lint_c writes to its folder out/: code for x86-64 Linux under the System V
  * calling convention. Of other libraries it needs only memcpy, memmove and memset.
  *
  * Every call is proved in its Rattle source, for every tree, every length and whatever the lent words hold: it ends, writes to
