@@ -59,8 +59,8 @@ extern "C" {
 
 /* Stack to keep free for one call, in bytes: measured on trees of depth 48, not proved (docs/SPEED.md). yudronkha_version,
  * yudronkha_severity and yudronkha_short_name take under a kilobyte. */
-#define YUDRONKHA_STACK_BYTES 1048576       /* yudronkha_lint, either keys; the most seen is 586,568 */
-#define YUDRONKHA_SARIF_STACK_BYTES 1572864 /* yudronkha_sarif, which makes its list there, too; the most seen is 1,000,520 */
+#define YUDRONKHA_STACK_BYTES 1048576       /* yudronkha_lint, either keys; the most seen is 957,792 */
+#define YUDRONKHA_SARIF_STACK_BYTES 1572864 /* yudronkha_sarif, which makes its list there, too; the most seen is 1,371,728 */
 
 /* What yudronkha_lint and yudronkha_sarif return: 0, or the number of the one refusal. Where several hold, the lowest number is
  * given, at its lowest place. The place stands in report[0]. */

@@ -30,7 +30,7 @@ MISSPELT = {
     "in_List": "in_list", "no_Abort": "no_abort", "pick_Any_set": "pick_any_set", "pick_Use": "pick_use", "no_Use": "no_use",
     "no_Any_set": "no_any_set", "no_Inner": "no_inner", "pick_Inner": "pick_inner", "IsRefused-as": "refused_as",
 }
-SKIP = re.compile(r'--[^\n]*|"(?:[^"\\\n]|\\.)*"')
+SKIP = re.compile(r'--[^\n]*|//[^\n]*|"(?:[^"\\\n]|\\.)*"')
 WORD = re.compile(r"[^\s(){}\[\],;.@«»`]+")
 DEF = re.compile(r"^\s*(?:(?:abbrev|unfoldable|pub|data|record|mutual|\|)\s+)*([^\s(){}\[\],;.:=→]+)\s*(?::(?!=)|[({].*:|where)")
 USE = re.compile(r"^[ \t]*(?:pub\s+)?(?:ghost\s+)?use\s+([^\s{;]+?)(?:\.\{([^}]*)\}|\s+as\s+(\S+?))?;?[ \t]*$", re.M)
@@ -117,7 +117,8 @@ def turn(text, names, crate, walk):
 
 
 def comment(t, names, crate):
-    """In a comment only a name with two hyphens or mixed case is surely meant as a name; others are words of English."""
+    """In a comment a name in mixed case or between backticks is surely meant as a name; others are words of English."""
+    t = re.sub(r"`[^`\n]+`", lambda q: WORD.sub(lambda m: spelled(m[0], crate) if m[0] in names else m[0], q[0]), t)
     return WORD.sub(lambda m: spelled(m[0], crate) if m[0] in names and (re.search(r"[a-z][A-Z]", m[0])) else m[0], t)
 
 

@@ -280,7 +280,7 @@ fn stmt(t: &[u8], i: usize, out: &mut [u32], d: Defined) -> Defined
     d
 }
 
-// Lists, if, if_else and for are gone into; the insides of any other node are not.
+// Lists, if, if-else and for are gone into; the insides of any other node are not.
 fn next(t: &[u8], i: usize) -> usize
     requires { i < 1024 }
     ensures { result ≡ pick (goes_in (top_of (kind_at t.now i))) (i + 1) (i + size_at t.now i) }
@@ -296,7 +296,7 @@ fn next(t: &[u8], i: usize) -> usize
     i + 1
 }
 
-// 15: every statement of the top level, under lists, if, if_else and for too.
+// 15: every statement of the top level, under lists, if, if-else and for too.
 fn stmts(t: &[u8], n: usize, out: &mut [u32], d: Defined) -> Defined
     requires { Part t.now 0 n × Low t.now n }
     ensures { Does t.now out.old d (deeds (forest_of t.now 0 n)) out.new result }

@@ -1,5 +1,6 @@
 // The walk: statements, branches, loops, expressions. d: how many for statements enclose the place; f: the number of the name fail.
 // A scope is a kilobyte and the walk recurs: where it spares a frame one, a call's result goes where its argument was.
+// The hints on inlining keep its frames small, as include/yudronkha.h promises who calls the library (docs/SPEED.md, "Stack").
 ghost use Rattle.std.specs.Prelude.{◌≡◌, ℕ, ◌+◌, ◌<◌, ◌≤◌, eqb};
 ghost use Rattle.tree.specs.Bytes.{pick, kind_at, role_at, size_at};
 ghost use Rattle.tree.specs.Forest.{node_head};
@@ -26,6 +27,7 @@ fn wanted(t: &[u8], c: usize, r: usize) -> bool
 
 // The nodes of role r from i up to e.
 #[cycle(walking)]
+#[inline(never)]
 pub fn visit(
     t: &[u8],
     i: usize,
@@ -50,6 +52,7 @@ pub fn visit(
 
 // Node c, where it is wanted.
 #[cycle(walking)]
+#[inline(always)]
 fn step(t: &[u8], c: usize, r: usize, d: usize, f: usize, w: &mut [u16], s: Scope) -> Scope
     requires { Node t.now c d × (d ≤ c) × Fits w.old s }
     ensures { Goes t.now d (pick (wanted_of t.now r c) (node_of t.now f c) skip) w.old s w.new result }
@@ -62,6 +65,7 @@ fn step(t: &[u8], c: usize, r: usize, d: usize, f: usize, w: &mut [u16], s: Scop
 
 // The children of role r of node c.
 #[cycle(walking)]
+#[inline(always)]
 fn down(t: &[u8], c: usize, r: usize, d: usize, f: usize, w: &mut [u16], s: Scope) -> Scope
     requires { Node t.now c d × Fits w.old s }
     ensures { Goes t.now d (down_of t.now f (want_of r) c) w.old s w.new result }
@@ -72,6 +76,7 @@ fn down(t: &[u8], c: usize, r: usize, d: usize, f: usize, w: &mut [u16], s: Scop
 
 // One node.
 #[cycle(walking)]
+#[inline(never)]
 fn one(t: &[u8], c: usize, d: usize, f: usize, w: &mut [u16], s: Scope) -> Scope
     requires { Node t.now c d × (d ≤ c) × Fits w.old s }
     ensures { Goes t.now d (node_of t.now f c) w.old s w.new result }
@@ -88,6 +93,7 @@ fn one(t: &[u8], c: usize, d: usize, f: usize, w: &mut [u16], s: Scope) -> Scope
 
 // Statements with no statement below: break, continue and pass too.
 #[cycle(walking)]
+#[inline(never)]
 fn stmt(t: &[u8], c: usize, k: usize, d: usize, f: usize, w: &mut [u16], s: Scope) -> Scope
     requires { (k ≡ kind_at t.now c) × (k < 8) × Node t.now c d × Fits w.old s }
     ensures { Goes t.now d (node_of t.now f c) w.old s w.new result }
@@ -114,6 +120,7 @@ fn stmt(t: &[u8], c: usize, k: usize, d: usize, f: usize, w: &mut [u16], s: Scop
 }
 
 #[cycle(walking)]
+#[inline(never)]
 fn ret(t: &[u8], c: usize, d: usize, f: usize, w: &mut [u16], s: Scope) -> Scope
     requires { (kind_at t.now c ≡ 4) × Node t.now c d × Fits w.old s }
     ensures { Goes t.now d (node_of t.now f c) w.old s w.new result }
@@ -124,6 +131,7 @@ fn ret(t: &[u8], c: usize, d: usize, f: usize, w: &mut [u16], s: Scope) -> Scope
 
 // A statement that is an expression ends the function if it calls fail.
 #[cycle(walking)]
+#[inline(never)]
 fn eval(t: &[u8], c: usize, d: usize, f: usize, w: &mut [u16], s: Scope) -> Scope
     requires { (kind_at t.now c ≡ 5) × Node t.now c d × Fits w.old s }
     ensures { Goes t.now d (node_of t.now f c) w.old s w.new result }
@@ -137,6 +145,7 @@ fn eval(t: &[u8], c: usize, d: usize, f: usize, w: &mut [u16], s: Scope) -> Scop
 }
 
 #[cycle(walking)]
+#[inline(never)]
 fn gets(t: &[u8], c: usize, d: usize, f: usize, w: &mut [u16], s: Scope) -> Scope
     requires { (kind_at t.now c ≡ 6) × Node t.now c d × Fits w.old s }
     ensures { Goes t.now d (node_of t.now f c) w.old s w.new result }
@@ -147,6 +156,7 @@ fn gets(t: &[u8], c: usize, d: usize, f: usize, w: &mut [u16], s: Scope) -> Scop
 }
 
 #[cycle(walking)]
+#[inline(never)]
 fn modify(t: &[u8], c: usize, d: usize, f: usize, w: &mut [u16], s: Scope) -> Scope
     requires { (kind_at t.now c ≡ 7) × Node t.now c d × Fits w.old s }
     ensures { Goes t.now d (node_of t.now f c) w.old s w.new result }
@@ -159,6 +169,7 @@ fn modify(t: &[u8], c: usize, d: usize, f: usize, w: &mut [u16], s: Scope) -> Sc
 
 // The target of node c: its expressions, then its names.
 #[cycle(walking)]
+#[inline(never)]
 fn assign(t: &[u8], c: usize, d: usize, f: usize, w: &mut [u16], s: Scope) -> Scope
     requires { Node t.now c d × Fits w.old s }
     ensures { Goes t.now d (down_of t.now f (want_of 5) c ⨟ node_bind t.now 5 c) w.old s w.new result }
@@ -168,8 +179,9 @@ fn assign(t: &[u8], c: usize, d: usize, f: usize, w: &mut [u16], s: Scope) -> Sc
     a
 }
 
-// Lists, if, if_else, for, def, load.
+// Lists, if, if-else, for, def, load.
 #[cycle(walking)]
+#[inline(never)]
 fn block(t: &[u8], c: usize, k: usize, d: usize, f: usize, w: &mut [u16], s: Scope) -> Scope
     requires { (k ≡ kind_at t.now c) × (8 ≤ k) × (k < 14) × (d ≤ c) × Node t.now c d × Fits w.old s }
     ensures { Goes t.now d (node_of t.now f c) w.old s w.new result }
@@ -191,6 +203,7 @@ fn block(t: &[u8], c: usize, k: usize, d: usize, f: usize, w: &mut [u16], s: Sco
 
 // An if, an if-else: what is visited first has role 4.
 #[cycle(walking)]
+#[inline(never)]
 fn cond(t: &[u8], c: usize, k: usize, d: usize, f: usize, w: &mut [u16], s: Scope) -> Scope
     requires { (k ≡ kind_at t.now c) × (9 ≤ k) × (k < 11) × Node t.now c d × Fits w.old s }
     ensures { Goes t.now d (node_of t.now f c) w.old s w.new result }
@@ -204,6 +217,7 @@ fn cond(t: &[u8], c: usize, k: usize, d: usize, f: usize, w: &mut [u16], s: Scop
 
 // An if: the second side is empty.
 #[cycle(walking)]
+#[inline(never)]
 fn side(t: &[u8], c: usize, d: usize, f: usize, w: &mut [u16], s: Scope) -> Scope
     requires { Node t.now c d × Fits w.old s }
     ensures { Goes t.now d (branch (down_of t.now f (want_of 1) c) skip) w.old s w.new result }
@@ -215,6 +229,7 @@ fn side(t: &[u8], c: usize, d: usize, f: usize, w: &mut [u16], s: Scope) -> Scop
 
 // Both sides start from the same standings and abort.
 #[cycle(walking)]
+#[inline(never)]
 fn branch(t: &[u8], c: usize, d: usize, f: usize, w: &mut [u16], s: Scope) -> Scope
     requires { Node t.now c d × Fits w.old s }
     ensures { Goes t.now d (branch (down_of t.now f (want_of 1) c) (down_of t.now f (want_of 2) c)) w.old s w.new result }
@@ -226,6 +241,7 @@ fn branch(t: &[u8], c: usize, d: usize, f: usize, w: &mut [u16], s: Scope) -> Sc
 
 // A for: what it goes over, then its rounds, two, or one from the sixth on. Not in cond, whose sides would add to a for's stack.
 #[cycle(walking)]
+#[inline(never)]
 fn loops(t: &[u8], c: usize, d: usize, f: usize, w: &mut [u16], s: Scope) -> Scope
     requires { (kind_at t.now c ≡ 11) × (d ≤ c) × Node t.now c d × Fits w.old s }
     ensures { Goes t.now d (node_of t.now f c) w.old s w.new result }
@@ -241,6 +257,7 @@ fn loops(t: &[u8], c: usize, d: usize, f: usize, w: &mut [u16], s: Scope) -> Sco
 }
 
 #[cycle(walking)]
+#[inline(never)]
 fn turn(t: &[u8], c: usize, d: usize, f: usize, w: &mut [u16], s: Scope) -> Scope
     requires { Node t.now c d × Fits w.old s }
     ensures { Turns t.now d (down_of t.now f (want_of 5) c ⨟ node_bind t.now 5 c ⨟ down_of t.now f (want_of 1) c) w.old s w.new result }
@@ -253,6 +270,7 @@ fn turn(t: &[u8], c: usize, d: usize, f: usize, w: &mut [u16], s: Scope) -> Scop
 }
 
 #[cycle(walking)]
+#[inline(never)]
 fn def(t: &[u8], c: usize, d: usize, f: usize, w: &mut [u16], s: Scope) -> Scope
     requires { (kind_at t.now c ≡ 12) × Node t.now c d × Fits w.old s }
     ensures { Goes t.now d (node_of t.now f c) w.old s w.new result }
@@ -265,6 +283,7 @@ fn def(t: &[u8], c: usize, d: usize, f: usize, w: &mut [u16], s: Scope) -> Scope
 
 // The scope of a def or a lambda.
 #[cycle(walking)]
+#[inline(always)]
 fn body(t: &[u8], c: usize, d: usize, f: usize, w: &mut [u16], s: Scope) -> Scope
     requires { Node t.now c d × Fits w.old s }
     ensures { Goes t.now d (scope (node_bind t.now 0 c ⨟ down_of t.now f (want_of 1) c)) w.old s w.new result }
@@ -275,6 +294,7 @@ fn body(t: &[u8], c: usize, d: usize, f: usize, w: &mut [u16], s: Scope) -> Scop
 }
 
 #[cycle(walking)]
+#[inline(never)]
 fn lambda(t: &[u8], c: usize, d: usize, f: usize, w: &mut [u16], s: Scope) -> Scope
     requires { (kind_at t.now c ≡ 24) × Node t.now c d × Fits w.old s }
     ensures { Goes t.now d (node_of t.now f c) w.old s w.new result }
@@ -284,6 +304,7 @@ fn lambda(t: &[u8], c: usize, d: usize, f: usize, w: &mut [u16], s: Scope) -> Sc
 }
 
 #[cycle(walking)]
+#[inline(never)]
 fn expr(t: &[u8], c: usize, k: usize, d: usize, f: usize, w: &mut [u16], s: Scope) -> Scope
     requires { (k ≡ kind_at t.now c) × (14 ≤ k) × Node t.now c d × Fits w.old s }
     ensures { Goes t.now d (node_of t.now f c) w.old s w.new result }
@@ -304,6 +325,7 @@ fn expr(t: &[u8], c: usize, k: usize, d: usize, f: usize, w: &mut [u16], s: Scop
 }
 
 #[cycle(walking)]
+#[inline(never)]
 fn comp(t: &[u8], c: usize, d: usize, f: usize, w: &mut [u16], s: Scope) -> Scope
     requires { Node t.now c d × Fits w.old s }
     ensures { Goes t.now d (over_of t.now f c ⨟ scope (bound_of t.now f c ⨟ down_of t.now f (want_of 8) c ⨟ down_of t.now f (want_of 4) c)) w.old s w.new result }
@@ -318,6 +340,7 @@ fn comp(t: &[u8], c: usize, d: usize, f: usize, w: &mut [u16], s: Scope) -> Scop
 
 // The over of the comprehension c's first clause, x.
 #[cycle(walking)]
+#[inline(never)]
 fn over(t: &[u8], c: usize, x: usize, d: usize, f: usize, w: &mut [u16], s: Scope) -> Scope
     requires { (x ≡ kid_of t.now 0 c) × Node t.now c d × Fits w.old s }
     ensures { Goes t.now d (over_of t.now f c) w.old s w.new result }
@@ -331,6 +354,7 @@ fn over(t: &[u8], c: usize, x: usize, d: usize, f: usize, w: &mut [u16], s: Scop
 
 // What of the comprehension c comes after its first over, in clause x.
 #[cycle(walking)]
+#[inline(never)]
 fn rest(t: &[u8], c: usize, x: usize, d: usize, f: usize, w: &mut [u16], s: Scope) -> Scope
     requires { (x ≡ kid_of t.now 0 c) × Node t.now c d × Fits w.old s }
     ensures { Goes t.now d (bound_of t.now f c ⨟ down_of t.now f (want_of 8) c ⨟ down_of t.now f (want_of 4) c) w.old s w.new result }
@@ -342,6 +366,7 @@ fn rest(t: &[u8], c: usize, x: usize, d: usize, f: usize, w: &mut [u16], s: Scop
 
 // The first target, and the later clauses.
 #[cycle(walking)]
+#[inline(never)]
 fn bound(t: &[u8], c: usize, x: usize, d: usize, f: usize, w: &mut [u16], s: Scope) -> Scope
     requires { (x ≡ kid_of t.now 0 c) × Node t.now c d × Fits w.old s }
     ensures { Goes t.now d (bound_of t.now f c) w.old s w.new result }
@@ -356,6 +381,7 @@ fn bound(t: &[u8], c: usize, x: usize, d: usize, f: usize, w: &mut [u16], s: Sco
 
 // The clauses of the comprehension c after the first, x.
 #[cycle(walking)]
+#[inline(never)]
 fn later(t: &[u8], c: usize, x: usize, d: usize, f: usize, w: &mut [u16], s: Scope) -> Scope
     requires { (c < x) × (x < c + size_at t.now c) × Node t.now c d × Fits w.old s }
     ensures { Goes t.now d (clauses_of t.now f (x + size_at t.now x) (c + size_at t.now c)) w.old s w.new result }
@@ -371,6 +397,7 @@ fn later(t: &[u8], c: usize, x: usize, d: usize, f: usize, w: &mut [u16], s: Sco
 }
 
 #[cycle(walking)]
+#[inline(never)]
 fn clause(t: &[u8], i: usize, d: usize, f: usize, w: &mut [u16], s: Scope) -> Scope
     requires { Node t.now i d × Fits w.old s }
     ensures { Goes t.now d (clause_of t.now f i) w.old s w.new result }
@@ -384,6 +411,7 @@ fn clause(t: &[u8], i: usize, d: usize, f: usize, w: &mut [u16], s: Scope) -> Sc
 
 // The names that the children of role r of node c bind: used where `uses`, else set.
 #[cycle(binding)]
+#[inline(never)]
 fn bind(t: &[u8], c: usize, r: usize, uses: bool, w: &mut [u16], s: Scope) -> Scope
     requires { Node t.now c 0 × Fits w.old s }
     ensures { (d : ℕ) → Goes t.now d (pick uses (node_use t.now r c) (node_bind t.now r c)) w.old s w.new result }
@@ -399,6 +427,7 @@ fn bind(t: &[u8], c: usize, r: usize, uses: bool, w: &mut [u16], s: Scope) -> Sc
 }
 
 #[cycle(binding)]
+#[inline(never)]
 fn bind_one(t: &[u8], i: usize, r: usize, uses: bool, w: &mut [u16], s: Scope) -> Scope
     requires { Node t.now i 0 × Fits w.old s }
     ensures { (d : ℕ) → Goes t.now d (pick (eqb r (role_at t.now i)) (name_node uses t.now i) skip) w.old s w.new result }
@@ -417,6 +446,7 @@ fn bind_one(t: &[u8], i: usize, r: usize, uses: bool, w: &mut [u16], s: Scope) -
 }
 
 // The name of node i: used where `uses`, else set.
+#[inline(never)]
 fn ident(t: &[u8], i: usize, uses: bool, w: &mut [u16], s: Scope) -> Scope
     requires { Node t.now i 0 × Fits w.old s }
     ensures { (d : ℕ) → Goes t.now d (pick uses (use_of (node_head t.now i)) (set_of (sort_of (kind_at t.now i)) (node_head t.now i))) w.old s w.new result }

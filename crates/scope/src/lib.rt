@@ -1,4 +1,5 @@
 // A scope: what is set, with what standing, and what using, setting, entering and leaving do.
+// What is always inlined spares the walk a copy of the scope in each of its frames (docs/SPEED.md, "Stack").
 #![tactic(auto)]
 
 ghost use Rattle.std.specs.Prelude.{◌≡◌, ◌||◌, ◌+◌, ◌-◌, ◌<◌, ◌≤◌, length, get_or};
@@ -196,6 +197,7 @@ fn join_standing(held: bool, a: bool, b: bool, x: Standing, y: Standing) -> Stan
 }
 
 // An entry after a branch.
+#[inline(always)]
 fn joined(a: bool, b: bool, p: Entry, q: Entry) -> Entry
     ensures { result ≡ joined_of a b p q }
 {
@@ -350,6 +352,7 @@ impl Scope {
     }
 
     // A new scope inside this one.
+    #[inline(always)]
     pub fn enter(self) -> Self
         ensures { result ≡ enter_scope self }
     {
@@ -370,6 +373,7 @@ impl Scope {
         }
     }
 
+    #[inline(always)]
     pub fn stop(self, a: Abort) -> Self
         ensures { result ≡ with_abort a self }
     {
@@ -388,6 +392,7 @@ impl Scope {
     }
 
     // A loop abort becomes none.
+    #[inline(always)]
     pub fn unlooped(self) -> Self
         ensures { result ≡ with_abort (unloop_of self.abort) self }
     {
@@ -574,6 +579,7 @@ impl Scope {
     }
 
     // The standings and the abort of s again, with what has gathered since.
+    #[inline(always)]
     pub fn back(self, s: Scope) -> Self
         ensures { result ≡ back_scope s self }
     {
@@ -593,6 +599,7 @@ impl Scope {
     }
 
     // The standings of both sides, of which this is the second.
+    #[inline(always)]
     fn merged(mut self, one: Scope, a: bool, b: bool) -> Self
         requires { self.settings ≤ 1024 }
         ensures { result ≡ merged_scope a b one self }
@@ -608,6 +615,7 @@ impl Scope {
         self
     }
 
+    #[inline(always)]
     pub fn join(self, one: Scope) -> Self
         requires { self.settings ≤ 1024 }
         ensures { result ≡ join_scope one self }
