@@ -2,7 +2,7 @@
 use Prim.Native.Nat.{ℕ, suc, ◌+◌, ◌-◌, ◌≤◌, ◌<◌}
 use native.Mathlib.Omega.{arith}
 use mathlib.Core.Path.{◌≡◌, ap, ◌∙◌}
-use mathlib.Core.List.{List}
+use mathlib.Core.List.{List, [], ◌∷◌}
 use lib.ListN.{length, set, get_or}
 use lib.Seq.{set_out}
 use Rattle.tree.specs.Forest.{Spot, number_at, node_spot}
@@ -12,7 +12,7 @@ use Rattle.answer.specs.declared.Ends.{Ends}
 use Rattle.answer.specs.declared.Note.{Note}
 use Rattle.answer.specs.declared.Place.TheVariants.{Node}
 use Rattle.answer.specs.declared.Sheet.{Sheet}
-use Rattle.answer.specs.Page.{lay, stored, write, page}
+use Rattle.answer.specs.Page.{lay, stored, write, writes, page, Added}
 use Rattle.answer.specs.Note.{span_of, span_from, value_of, node_of, rec_of, rec_from}
 
 pub words_done : (t : List ℕ) (n : Note) {a b c : Ends} {v x y : ℕ} → span_from a ≡ span_of t (Node n.at) → v ≡ value_of t n.value
@@ -35,11 +35,11 @@ words_done t n {a} {b} {c} p v q r x y =
     = ap (λ (s : Span). record { begin = s.begin; end = s.end; value = value_of t n.value }) p in
     rw (v, e, q, r, x, y)
 
-pub put_done : (o : List ℕ) (s : Sheet) (r : Rec) {o₁ : List ℕ} {r₁ : Rec} {n : ℕ} {y : List ℕ} → (r₁ ≡ r) → o₁ ≡ stored o s.count r₁
-    → n ≡ one_more s.count → y ≡ raise r.code s.tally
-    → page o₁ (record { count = n; tally = y }) ≡ write (page o s) r
-unfolding write
-put_done o s r b a c d = rw (a, b, c, d)
+pub put_done : (s : Sheet) (r : Rec) {s' : Sheet} {r₁ : Rec} → (r₁ ≡ r) → s'.out.now ≡ stored s.out.now s.count r₁
+    → s'.count ≡ one_more s.count → s'.tally ≡ raise r.code s.tally → s'.out.ghost_name ≡ s.out.ghost_name
+    → Added s s' (r ∷ [])
+unfolding write writes
+put_done s r b a c d e = record { so = rw (a, b, c, d); same_room = e }
 
 pub raise_past : (c : ℕ) (ns : List ℕ) → length ns < c → raise c ns ≡ ns
 unfolding raise

@@ -1,4 +1,4 @@
 -- What the contracts of answer cite.
 pub mod Page
 pub mod Note
-pub mod Refuse
+pub mod Answers

@@ -1,5 +1,5 @@
 -- What a pass has written so far: the lent words, how many records, how many of each code. Assumes nothing.
-use Rattle.std.specs.Prelude.{ℕ, ◌+◌, ◌*◌, ◌/◌, List, [], ◌∷◌, true, false, length, set, ltb}
+use Rattle.std.specs.Prelude.{ℕ, ◌≡◌, ◌+◌, ◌*◌, ◌/◌, List, [], ◌∷◌, true, false, length, set, ltb}
 use Rattle.rules.specs.Record.{Rec, width, words}
 use Rattle.rules.specs.Joined.{one_more, raise}
 use Rattle.answer.specs.declared.Sheet.{Sheet}
@@ -28,6 +28,11 @@ unfoldable pub writes : Page → List Rec → Page
 writes p [] = p
 writes p (r ∷ rs) = writes (write p r) rs
 
--- the lent words with the counts of a sheet
-abbrev pub page : List ℕ → Sheet → Page
-page o s = record { out = o; count = s.count; tally = s.tally }
+-- what a sheet has written
+abbrev pub page : Sheet → Page
+page s = record { out = s.out.now; count = s.count; tally = s.tally }
+
+-- The sheet s became s': the records rs were written, into the same lent words.
+pub record Added (s s' : Sheet) (rs : List Rec) : Type 0 where
+  pub so : page s' ≡ writes (page s) rs
+  pub same_room : s'.out.ghost_name ≡ s.out.ghost_name

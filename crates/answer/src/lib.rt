@@ -2,20 +2,20 @@
 // Every function here is total: a record for which there is no room is only counted, and a count stays at the largest usize.
 #![tactic(auto)]
 
-ghost use Rattle.std.specs.Prelude.{◌≡◌, ◌<◌};
+ghost use Rattle.std.specs.Prelude.{◌≡◌, List, [], ◌∷◌, ◌<◌, ◌≤◌, length, Ok, Err};
 ghost use Rattle.tree.specs.Forest.{number_at, node_head};
-ghost use Rattle.rules.specs.Record.{plainly};
+ghost use Rattle.rules.specs.Record.{Rec, plainly};
 ghost use Rattle.rules.specs.Joined.{one_more, raise, no_tally};
-ghost use Rattle.answer.specs.Page.{stored, write, page};
+ghost use Rattle.answer.specs.Page.{stored, page, Added};
+ghost use Rattle.answer.specs.Answers.{Answers};
 ghost use Rattle.answer.specs.Note.{span_of, span_from, value_of, node_of, rec_of, rec_from};
-ghost use Rattle.answer.specs.Refuse.{refusal_of};
 
-use rules::{Answer, CODES, Outcome, Refusal, WIDTH};
+use rules::{Answer, CODES, Refusal, WIDTH};
+use tree::Likeness;
 use tree::bytes::{begin_at, end_at, value_at};
-use tree::{Judged, Likeness};
 
 // What a record speaks of: nothing, a node, or why two keys are equal, which stands where a third span would.
-#[derive(Clone, Copy)]
+#[derive(Clone, Copy, Debug, PartialEq, Eq)]
 pub enum Place {
     Nowhere,
     Node(usize),
@@ -23,7 +23,7 @@ pub enum Place {
 }
 
 // A record: its code, the node that it is at, and what its value, second and third span come from.
-#[derive(Clone, Copy)]
+#[derive(Clone, Copy, Debug, PartialEq, Eq)]
 pub struct Note {
     pub code: u32,
     pub at: usize,
@@ -32,9 +32,10 @@ pub struct Note {
     pub third: Place,
 }
 
-// How many records there are so far, and how many of each code.
-#[derive(Clone, Copy)]
-pub struct Sheet {
+// What is written so far: the lent words, how many records, and how many of each code.
+#[derive(Drop)]
+pub struct Sheet<'a> {
+    pub out: &'a mut [u32],
     pub count: usize,
     pub tally: [usize; CODES],
 }
@@ -46,7 +47,7 @@ struct Ends {
 }
 
 // A record's words: its code, its first span and value, its second and third span, its node and that of its second span.
-#[derive(Clone, Copy)]
+#[derive(Clone, Copy, Debug, PartialEq, Eq)]
 pub struct Words {
     pub code: u32,
     pub begin: u32,
@@ -187,73 +188,86 @@ fn emit(out: &mut [u32], n: usize, r: Words)
     }
 }
 
-// One more record: stored where there is room for it, and counted.
-pub fn put(t: &[u8], out: &mut [u32], s: Sheet, n: Note) -> Sheet
-    ensures { page out.new result ≡ write (page out.old s) (rec_of t.now n) }
-{
-    let code = n.code;
-    let count = s.count;
-    let tally = s.tally;
-    emit(out, count, words_of(t, n));
-    Sheet {
-        count: up(count),
-        tally: raised(tally, code),
+impl<'a> Sheet<'a> {
+    // Nothing written yet, with the counts of the passes before.
+    pub fn new(out: &'a mut [u32], tally: [usize; CODES]) -> Sheet<'a>
+        ensures { (page result ≡ record { out = out.old; count = 0; tally = tally }) × (result.out.ghost_name ≡ out.entry.ghost_name) }
+    {
+        Sheet {
+            out,
+            count: 0,
+            tally,
+        }
     }
-}
 
-// A record of a node's own span and of no value.
-pub fn put_plainly(t: &[u8], out: &mut [u32], s: Sheet, code: u32, i: usize) -> Sheet
-    ensures { page out.new result ≡ write (page out.old s) (plainly code (node_head t.now i)) }
-{
-    put(
-        t,
-        out,
-        s,
-        Note {
-            code,
-            at: i,
-            value: Place::Nowhere,
-            second: Place::Nowhere,
-            third: Place::Nowhere,
-        },
-    )
-}
+    // One more record: stored where there is room for it, and counted.
+    pub fn put(&mut self, t: &[u8], n: Note)
+        ensures { Added self.old self.new (rec_of t.now n ∷ []) }
+    {
+        emit(self.out, self.count, words_of(t, n));
+        self.count = self.count.saturating_add(1);
+        self.tally = raised(self.tally, n.code);
+    }
 
-// Nothing written yet, with the counts of the passes before.
-pub fn started(tally: [usize; CODES]) -> Sheet
-    ensures { (result.count ≡ 0) × (result.tally ≡ tally) }
-{
-    Sheet { count: 0, tally }
+    // A record of a node's own span and of no value.
+    pub fn put_plainly(&mut self, t: &[u8], code: u32, i: usize)
+        ensures { Added self.old self.new (plainly code (node_head t.now i) ∷ []) }
+    {
+        self.put(
+            t,
+            Note {
+                code,
+                at: i,
+                value: Place::Nowhere,
+                second: Place::Nowhere,
+                third: Place::Nowhere,
+            },
+        );
+    }
+
+    // What is written is the whole list.
+    pub fn listed(&self) -> Answer
+        ensures { (result.outcome ≡ Ok self.now.count) × (result.tally ≡ self.now.tally) }
+    {
+        Answer {
+            outcome: Ok(self.count),
+            tally: self.tally,
+        }
+    }
 }
 
 // A refusal: its tally is all zero.
 pub fn refused(why: Refusal) -> Answer
-    ensures { (result.outcome ≡ Outcome.Refused why) × (result.tally ≡ no_tally) }
+    ensures { (result.outcome ≡ Err why) × (result.tally ≡ no_tally) }
 {
-    let zero = [0; CODES];
     Answer {
-        outcome: Outcome::Refused(why),
-        tally: zero,
+        outcome: Err(why),
+        tally: [0; CODES],
     }
 }
 
-// Why a judged file is refused. (A valid one is not: no caller asks.)
-pub fn refusal_of(j: Judged) -> Refusal
-    ensures { result ≡ refusal_of j }
-{
-    match j {
-        Judged::Refused(why) => Refusal::Tree(why),
-        Judged::Valid(_) => Refusal::AnswerRoom(0),
-    }
+// A pass over a file: what it needs to be run, and the records that it then adds to any sheet.
+pub trait Pass {
+    ghost ready: { Self → Type 0 };
+    ghost records: { Self → List Rec };
+
+    fn lint(&self, sheet: &mut Sheet<'_>)
+        requires { ready self.now }
+        ensures { Added sheet.old sheet.new (records self.now) };
 }
 
-// What is written is the whole list.
-pub fn listed(s: Sheet) -> Answer
-    ensures { (result.outcome ≡ Outcome.Listed s.count) × (result.tally ≡ s.tally) }
+// A whole pass over a valid file: counted first, into no room, and written where there is room for all.
+pub fn answered<P: Pass>(pass: &P, out: &mut [u32], tally: [usize; CODES]) -> Answer
+    requires { P.ready pass.now × (length (P.records pass.now) ≤ 18446744073709551615) }
+    ensures { Answers (P.records pass.now) out.old tally result out.new }
 {
-    let tally = s.tally;
-    Answer {
-        outcome: Outcome::Listed(s.count),
-        tally,
+    let mut counted = Sheet::new(&mut out[..0], tally);
+    pass.lint(&mut counted);
+    let records = counted.count;
+    if out.len() / WIDTH < records {
+        return refused(Refusal::AnswerRoom(records));
     }
+    let mut sheet = Sheet::new(out, tally);
+    pass.lint(&mut sheet);
+    sheet.listed()
 }

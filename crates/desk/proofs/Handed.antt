@@ -1,4 +1,5 @@
 -- What the promises of text, log and lint give: the bytes that are handed to a write call. Assumes nothing.
+use Rattle.std.specs.Prelude.{Ok}
 use Prim.Native.Nat.{ℕ, ◌+◌, ◌*◌, ◌≤◌, min}
 use native.Mathlib.Omega.{arith}
 use native.Mathlib.Nat.{min-le_right}
@@ -12,7 +13,6 @@ use Rattle.rules.specs.Joined.{lint_list, no_tally, tally_of}
 use Rattle.rules.specs.Calls.{lint_call}
 use Rattle.rules.specs.Afterwards.{Gives, records_in}
 use Rattle.rules.specs.declared.Refusal.{Refusal}
-use Rattle.rules.specs.declared.Outcome.TheVariants.{Listed}
 use Rattle.rules.specs.declared.Answer.{Answer}
 use Rattle.rules.proofs.Called.{room_where_listed}
 use Rattle.lint.proofs.Demands.{lint_records, lint_counts}
@@ -57,7 +57,7 @@ refusal_handed why p q h =
 -- ---- a log
 
 pub lists : (choices : ℕ) (t work room : List ℕ) (mode : Mode) → mode ≡ mode_of choices → (a : Answer) (room' work' : List ℕ)
-    → Gives (lint_call mode t work room) a room' work' → (n : ℕ) → a.outcome ≡ Listed n → Lists (mode_of choices) t room' n a.tally
+    → Gives (lint_call mode t work room) a room' work' → (n : ℕ) → a.outcome ≡ Ok n → Lists (mode_of choices) t room' n a.tally
 lists choices t work room mode e a room' work' g n i =
     let same : lint_list mode t ≡ lint_list (mode_of choices) t = ap (λ (m : Mode). lint_list m t) e in
     let r = lint_records mode t work room a room' work' g n i in

@@ -181,8 +181,8 @@ fn log<P: Print + Eprint>(
     let o = a.outcome;
     let counts = a.tally;
     match o {
-        Outcome::Listed(n) => logged(rt, page, choices, t, answer, n, counts, other),
-        Outcome::Refused(why) => refused(rt, page, why),
+        Ok(n) => logged(rt, page, choices, t, answer, n, counts, other),
+        Err(why) => refused(rt, page, why),
     }
 }
 

@@ -1,4 +1,5 @@
 -- In a valid file the numbers that stand for keys give the list of 01 and 02, §11. Assumes nothing.
+use Rattle.std.specs.Prelude.{Ok}
 use Prim.Native.Nat.{ℕ, ◌+◌, ◌≤◌, ◌<◌}
 use native.Mathlib.Omega.{arith}
 use native.Mathlib.Decide.{ℕ_discrete}
@@ -19,7 +20,6 @@ use Rattle.tree.specs.code.Numbers.{KeyNumbers, like_by}
 use Rattle.tree.specs.declared.Mode.{Mode}
 use Rattle.tree.specs.declared.Likeness.{Likeness}
 use Rattle.tree.specs.declared.Facts.{Facts}
-use Rattle.tree.specs.declared.Judged.TheVariants.{Valid}
 use Rattle.tree.proofs.Laws.{ended, forest_none, forest_node, induct}
 use Rattle.tree.proofs.Whole.{sound, whole_part}
 use Rattle.tree.proofs.Entries.{names_fit, value_among_names, value_past_names}
@@ -96,7 +96,7 @@ part_fine {t} {f} s p = induct (λ i e. e ≤ node_count t → Fine (value_count
         → (e ≤ node_count t → Fine (value_count t) (forest_of t (i + size_at t i) e)) → e ≤ node_count t → Fine (value_count t) (forest_of t i e)
     more i e p lt u v n = rw (forest_node p lt) (fine_node (key_value s i (omega arith)) (u (omega (arith, ended p lt))) (v n))
 
-module _ (t : List ℕ) (f : Facts) (valid : judged t ≡ Valid f) (bytes : (k : ℕ) → get_or t k 0 < 256) (m : Mode) (ns : List ℕ) (numbers : KeyNumbers t m ns) where
+module _ (t : List ℕ) (f : Facts) (valid : judged t ≡ Ok f) (bytes : (k : ℕ) → get_or t k 0 < 256) (m : Mode) (ns : List ℕ) (numbers : KeyNumbers t m ns) where
   -- what the walks list is the list of 01 and 02, §11
   pub list_is : dubious_list m t ≡ dubious (like_by ns) (forest_of t 0 f.nodes)
   unfolding dubious_list tree_of

@@ -10,7 +10,6 @@ ghost use Rattle.tree.specs.Keys.{alike};
 ghost use Rattle.tree.specs.code.Numbers.{like_by};
 ghost use Rattle.tree.specs.code.Part.{Part, Subtree};
 ghost use Rattle.tree.specs.Judge.{judged};
-ghost use Rattle.tree.specs.declared.Judged.TheVariants.{Valid};
 ghost use Rattle.rules.specs.Record.{listed};
 ghost use Rattle.rules.specs.Visit.{each};
 ghost use Rattle.rules.specs.Dubious.{keys, doubles, dict_at, idle_at, dubious};
@@ -192,7 +191,7 @@ fn lint(t: &[u8], numbers: &[u16], n: usize, out: &mut [u32], s: Sheet) -> Sheet
 // The whole pass over a valid file, f its facts: counted first, into no room, and written where there is room for all.
 // It requires the judgement, so that the joined call judges a file once.
 pub fn lint_valid(t: &[u8], f: Facts, mode: Mode, out: &mut [u32], tally: [usize; CODES]) -> Answer
-    requires { judged t.now ≡ Valid f }
+    requires { judged t.now ≡ Ok f }
     ensures { record { answer = result; room = out.new } ≡ dubious_call mode t.now out.old tally }
 {
     let n = f.nodes;
@@ -210,7 +209,7 @@ pub fn dubious(t: &[u8], mode: Mode, out: &mut [u32], tally: [usize; CODES]) -> 
     ensures { record { answer = result; room = out.new } ≡ dubious_call mode t.now out.old tally }
 {
     let j = judge(t);
-    let Judged::Valid(f) = j else {
+    let Ok(f) = j else {
         return answer::refused(answer::refusal_of(j));
     };
     lint_valid(t, f, mode, out, tally)

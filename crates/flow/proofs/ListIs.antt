@@ -1,4 +1,5 @@
 -- In a valid file the numbers of fail and None, and the table of strings, give the list of 01. Assumes nothing.
+use Rattle.std.specs.Prelude.{Ok}
 use Prim.Native.Nat.{ℕ, ◌≤◌, ◌<◌}
 use native.Mathlib.Omega.{arith}
 use native.Mathlib.Decide.{dec_lt}
@@ -14,7 +15,6 @@ use Rattle.tree.specs.Judge.{judged}
 use Rattle.tree.specs.Table.{table_of, spells, a_string}
 use Rattle.tree.specs.code.Numbers.{number_named, Traits}
 use Rattle.tree.specs.declared.Facts.{Facts}
-use Rattle.tree.specs.declared.Judged.TheVariants.{Valid}
 use Rattle.tree.proofs.Fields.{part_small}
 use Rattle.tree.proofs.TableLaws.{at_past}
 use Rattle.tree.proofs.ValidTable.{spells_number}
@@ -35,7 +35,7 @@ pub walked_five : (p : Page) (a b c d e : List Rec) {p₁ p₂ p₃ p₄ p₅ : 
 walked_five p a b c d e {p₁} {p₂} {p₃} u v w x y =
     walked_both p a (b ++ (c ++ (d ++ e))) u (walked_both p₁ b (c ++ (d ++ e)) v (walked_both p₂ c (d ++ e) w (walked_both p₃ d e x y)))
 
-module _ (t : List ℕ) (f : Facts) (valid : judged t ≡ Valid f) where
+module _ (t : List ℕ) (f : Facts) (valid : judged t ≡ Ok f) where
   pub list_few : length (flow_list t) ≤ 18446744073709551615
   list_few = omega (arith, flow_list_few t, few_nodes t f valid)
 

@@ -1,5 +1,6 @@
 -- What private functions of last, ends and returns promise and require. Assumes nothing.
 -- Nobody has to believe them: the walk's promise is the rule's list.
+use Rattle.std.specs.Prelude.{Ok}
 use Rattle.std.specs.Prelude.{ℕ, ◌+◌, ◌≤◌, ◌<◌, ◌≡◌, cond, List, [], ◌∷◌, eqb, ltb}
 use Rattle.std.proofs.Math.Option.{Option, none, some}
 use Rattle.tree.specs.Bytes.{kind_at, size_at}
@@ -9,7 +10,6 @@ use Rattle.tree.specs.code.Find.{kid_of}
 use Rattle.tree.specs.Children.{many}
 use Rattle.tree.specs.Judge.{judged}
 use Rattle.tree.specs.declared.Facts.{Facts}
-use Rattle.tree.specs.declared.Judged.TheVariants.{Valid}
 use Rattle.rules.specs.Record.{listed}
 use Rattle.rules.specs.Visit.{has}
 use Rattle.rules.specs.Flow.{Return, the_rest, returns}
@@ -72,5 +72,5 @@ own h k = listed (eqb 4 h.kind) (record { head = h; valued = has 4 k } ∷ []) [
 -- the file is valid, and has n nodes
 pub record Checked (t : List ℕ) (n : ℕ) : Type 0 where
   pub facts : Facts
-  pub valid : judged t ≡ Valid facts
+  pub valid : judged t ≡ Ok facts
   pub nodes : facts.nodes ≡ n

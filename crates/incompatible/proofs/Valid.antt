@@ -1,4 +1,5 @@
 -- In a valid file the numbers of the names give the list of 01. Assumes nothing.
+use Rattle.std.specs.Prelude.{Ok}
 use Prim.Native.Nat.{ℕ, ◌≤◌, ◌<◌}
 use native.Mathlib.Omega.{arith}
 use mathlib.Core.Path.{◌≡◌, refl, ap, ap₂}
@@ -11,7 +12,6 @@ use Rattle.tree.specs.Forest.{Head, Forest, none, node, forest_of, tree_of}
 use Rattle.tree.specs.Judge.{judged}
 use Rattle.tree.specs.Table.{table_of, spells}
 use Rattle.tree.specs.declared.Facts.{Facts}
-use Rattle.tree.specs.declared.Judged.TheVariants.{Valid}
 use Rattle.tree.proofs.Fields.{Small, small_none, small_node, part_small}
 use Rattle.tree.proofs.Whole.{sound, whole_part}
 use Rattle.tree.proofs.Entries.{names_fit, value_among_names}
@@ -60,7 +60,7 @@ or_false : (b : Bool) → b || false ≡ b
 or_false true = refl
 or_false false = refl
 
-module _ (t : List ℕ) (f : Facts) (valid : judged t ≡ Valid f) where
+module _ (t : List ℕ) (f : Facts) (valid : judged t ≡ Ok f) where
   -- a node that holds a name holds one of the first 512 values
   pub low_names : Low t f.nodes
   low_names =

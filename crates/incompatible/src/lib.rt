@@ -6,7 +6,6 @@ ghost use Rattle.std.specs.Prelude.{◌≡◌};
 ghost use Rattle.tree.specs.Forest.{forest_of};
 ghost use Rattle.tree.specs.code.Part.{Part};
 ghost use Rattle.tree.specs.Judge.{judged};
-ghost use Rattle.tree.specs.declared.Judged.TheVariants.{Valid};
 ghost use Rattle.rules.specs.Incompatible.{incompatible};
 ghost use Rattle.rules.specs.Calls.{incompatible_call};
 ghost use Rattle.answer.specs.Page.{writes, page};
@@ -38,7 +37,7 @@ fn lint(
 // The whole pass over a valid file, f its facts: counted first, into no room, and written where there is room for all.
 // It requires the judgement, so that the joined call judges a file once.
 pub fn lint_valid(t: &[u8], f: Facts, out: &mut [u32], tally: [usize; CODES]) -> Answer
-    requires { judged t.now ≡ Valid f }
+    requires { judged t.now ≡ Ok f }
     ensures { record { answer = result; room = out.new } ≡ incompatible_call t.now out.old tally }
 {
     let n = f.nodes;
@@ -57,7 +56,7 @@ pub fn incompatible(t: &[u8], out: &mut [u32], tally: [usize; CODES]) -> Answer
     ensures { record { answer = result; room = out.new } ≡ incompatible_call t.now out.old tally }
 {
     let j = judge(t);
-    let Judged::Valid(f) = j else {
+    let Ok(f) = j else {
         return answer::refused(answer::refusal_of(j));
     };
     lint_valid(t, f, out, tally)

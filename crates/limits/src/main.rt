@@ -37,8 +37,8 @@ fn print_refusal<P: Print>(rt: &P, why: Refusal) {
 
 fn print_judged<P: Print>(rt: &P, j: Judged) {
     match j {
-        Judged::Valid(f) => print_valid(rt, f),
-        Judged::Refused(why) => print_refusal(rt, why),
+        Ok(f) => print_valid(rt, f),
+        Err(why) => print_refusal(rt, why),
     }
     text(rt, b"\n");
 }

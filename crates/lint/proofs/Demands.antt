@@ -1,5 +1,6 @@
 -- The three demands, read of what the joined call answers and leaves. In each: t, the file's bytes; work and room, the lent words
 -- before the call; a, its answer; room' and work', the words afterwards, as the call promises them. Assumes nothing.
+use Rattle.std.specs.Prelude.{Ok}
 use Prim.Native.Nat.{ℕ, ◌*◌, ◌≤◌}
 use native.Mathlib.Omega.{arith}
 use mathlib.Core.Path.{◌≡◌, sym, ap, ◌∙◌}
@@ -10,7 +11,6 @@ use Rattle.tree.specs.Judge.{judged}
 use Rattle.tree.specs.Forest.{tree_of}
 use Rattle.tree.specs.Table.{table_of, spells}
 use Rattle.tree.specs.declared.Facts.{Facts}
-use Rattle.tree.specs.declared.Judged.TheVariants.{Valid}
 use Rattle.tree.specs.declared.Mode.{Mode}
 use Rattle.rules.specs.Order.{fail_name}
 use Rattle.rules.specs.Names.{names_list}
@@ -24,7 +24,6 @@ use Rattle.rules.specs.Calls.{DoneWithWork, lint_call}
 use Rattle.rules.specs.Afterwards.{records_in, Gives, Lists, WarnedOrRefused, warned, refused}
 use Rattle.rules.specs.Premises.{Premises}
 use Rattle.rules.specs.Letter.{Demand3}
-use Rattle.rules.specs.declared.Outcome.TheVariants.{Listed}
 use Rattle.rules.specs.declared.Answer.{Answer}
 use Rattle.rules.proofs.Whole.{file_demand3, file_lint_few, file_tally}
 use Rattle.lint.proofs.lint.Reads as contract
@@ -46,16 +45,16 @@ module _ (mode : Mode) (t work room : List ℕ) (a : Answer) (room' work' : List
   lint_demand1 = warned_or_refused (lint_list mode t) t work room no_tally a room' work' gives
 
   -- DEMAND 2: "On every valid tree the list is proved equal to 01's rules."
-  pub lint_demand2 : (f : Facts) → judged t ≡ Valid f → work_words ≤ length work → width * length (lint_list mode t) ≤ length room
+  pub lint_demand2 : (f : Facts) → judged t ≡ Ok f → work_words ≤ length work → width * length (lint_list mode t) ≤ length room
       → Lists (lint_list mode t) t no_tally work room a room' work'
   lint_demand2 = lists (lint_list mode t) t work room no_tally a room' work' gives
 
   -- the records that stand in the answer room are the whole list, in its order
-  pub lint_records : (n : ℕ) → a.outcome ≡ Listed n → records_in n room' ≡ lint_list mode t
+  pub lint_records : (n : ℕ) → a.outcome ≡ Ok n → records_in n room' ≡ lint_list mode t
   lint_records = records_all (lint_list mode t) t work room no_tally a room' work' gives
 
   -- "invented tallies (each equals its code's records)": the counts are those of the records that stand in the answer room
-  pub lint_counts : (n : ℕ) → a.outcome ≡ Listed n → a.tally ≡ tally_of (records_in n room')
+  pub lint_counts : (n : ℕ) → a.outcome ≡ Ok n → a.tally ≡ tally_of (records_in n room')
   lint_counts n i =
       let v = valid_where_listed (lint_list mode t) t work room no_tally a room' work' gives n i in
       go lint_demand1 ∙ file_tally t v.0 v.1 mode ∙ ap tally_of (sym (lint_records n i))
@@ -65,7 +64,7 @@ module _ (mode : Mode) (t work room : List ℕ) (a : Answer) (room' work' : List
       go (refused why l) = let z : ◌≡◌ {A = ℕ} 0 1 = cc (l.outcome, i) in absurd (omega arith)
 
   -- DEMAND 3, both halves, of the records that the call leaves in the answer room
-  pub lint_demand3 : (f : Facts) → judged t ≡ Valid f → Premises (tree_of t) → (n : ℕ) → a.outcome ≡ Listed n
+  pub lint_demand3 : (f : Facts) → judged t ≡ Ok f → Premises (tree_of t) → (n : ℕ) → a.outcome ≡ Ok n
       → Demand3 (spells (table_of t) fail_name) (spells (table_of t) none_name) (tree_of t) (records_in n room') (records_in n room')
   unfolding lint_list
   lint_demand3 f v p n i =
@@ -75,7 +74,7 @@ module _ (mode : Mode) (t work room : List ℕ) (a : Answer) (room' work' : List
       (λ r m. Memᴰ.append_right (names_list t) (Memᴰ.append_left rest m)))
 
   -- 02, §4: the numbers of each record that the call leaves are nodes of the file that have its first and second span
-  pub lint_placed : (n : ℕ) → a.outcome ≡ Listed n → Each (Placed t) (records_in n room')
+  pub lint_placed : (n : ℕ) → a.outcome ≡ Ok n → Each (Placed t) (records_in n room')
   lint_placed n i =
       let v = valid_where_listed (lint_list mode t) t work room no_tally a room' work' gives n i in
       rw (lint_records n i) (file_placed t v.0 v.1 mode)
@@ -86,5 +85,5 @@ module _ (mode : Mode) (t work room : List ℕ) (a : Answer) (room' work' : List
   lint_one b room'' work'' other = one_outcome gives other
 
 -- room for 10,240 records is enough for every file that is judged valid
-pub room_enough : (mode : Mode) (t : List ℕ) (f : Facts) → judged t ≡ Valid f → width * length (lint_list mode t) ≤ width * 10240
+pub room_enough : (mode : Mode) (t : List ℕ) (f : Facts) → judged t ≡ Ok f → width * length (lint_list mode t) ≤ width * 10240
 room_enough mode t f v = let l = file_lint_few t f v mode in omega arith

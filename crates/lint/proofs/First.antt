@@ -1,5 +1,6 @@
 -- Names, in the part of the answer room that the records of the other passes leave: what its answer says of the joined list.
 -- Assumes nothing.
+use Rattle.std.specs.Prelude.{Ok, Err}
 use Prim.Native.Nat.{ℕ, ◌+◌, ◌*◌, ◌-◌, ◌/◌, ◌≤◌, ◌<◌}
 use native.Mathlib.Omega.{arith}
 use native.Mathlib.Nat.{le-div_iff_mul-le}
@@ -17,8 +18,7 @@ use Rattle.rules.specs.Calls.{Done, DoneWithWork, done, done_with_work}
 use Rattle.rules.specs.Afterwards.{Gives}
 use Rattle.rules.specs.declared.Refusal.{Refusal}
 use Rattle.rules.specs.declared.Refusal.TheVariants.{WorkRoom, AnswerRoom}
-use Rattle.rules.specs.declared.Outcome.{Outcome}
-use Rattle.rules.specs.declared.Outcome.TheVariants.{Listed, Refused}
+use Rattle.rules.specs.Outcome.{Outcome}
 use Rattle.rules.specs.declared.Answer.{Answer}
 use Rattle.rules.proofs.Answered.{short_or_not, refused, listed, filled, answer_same, done_listed, work_lacking, work_unlisted, work_listed, with_work}
 use Rattle.lint.specs.Links.{about, refusal_with, JudgedValid, Fits}
@@ -56,7 +56,7 @@ module _ {t : List ℕ} {facts : Facts} (s : JudgedValid t facts) (ns rs : List 
     outcome_is d = ap (λ (x : DoneWithWork). x.answer.outcome) (gives ∙ d)
 
     -- where there is room for all, names lists its records
-    all_listed : work_words ≤ length w → width * length (ns ++ rs) ≤ length o → a.outcome ≡ Listed (length ns)
+    all_listed : work_words ≤ length w → width * length (ns ++ rs) ≤ length o → a.outcome ≡ Ok (length ns)
     all_listed h f = outcome_is (work_listed ns t w part y s.valid h (fits_part f))
 
     -- what it is about is no more than its list
@@ -70,17 +70,17 @@ module _ {t : List ℕ} {facts : Facts} (s : JudgedValid t facts) (ns rs : List 
         go (inr h) (inr l) = rw (outcome_is (work_listed ns t w part y s.valid h l)) (omega arith)
 
     -- a list of names with the others' records within the room: there was room for all
-    room_for_all : (n : ℕ) → a.outcome ≡ Listed n → length rs ≤ length o / width
+    room_for_all : (n : ℕ) → a.outcome ≡ Ok n → length rs ≤ length o / width
         → (work_words ≤ length w) × (width * length (ns ++ rs) ≤ length o)
     room_for_all n i m = go (short_or_not (length w) work_words) (short_or_not (length part) (width * length ns))
       where
         go : (length w < work_words) ⊎ (work_words ≤ length w) → (length part < width * length ns) ⊎ (width * length ns ≤ length part)
             → (work_words ≤ length w) × (width * length (ns ++ rs) ≤ length o)
         go (inl h) l =
-            let q : a.outcome ≡ Refused WorkRoom = outcome_is (work_lacking ns t w part y s.valid h) in
+            let q : a.outcome ≡ Err WorkRoom = outcome_is (work_lacking ns t w part y s.valid h) in
             let z : ◌≡◌ {A = ℕ} 0 1 = cc in absurd (omega arith)
         go (inr h) (inl l) =
-            let q : a.outcome ≡ Refused (AnswerRoom (length ns)) = outcome_is (work_unlisted ns t w part y s.valid h l) in
+            let q : a.outcome ≡ Err (AnswerRoom (length ns)) = outcome_is (work_unlisted ns t w part y s.valid h l) in
             let z : ◌≡◌ {A = ℕ} 0 1 = cc in absurd (omega arith)
         go (inr h) (inr l) =
             let p = part_length in let c = most in let b = both in
@@ -88,7 +88,7 @@ module _ {t : List ℕ} {facts : Facts} (s : JudgedValid t facts) (ns rs : List 
 
     -- THE REFUSALS: where not all is well, the joined call's answer and what it leaves
     pub refused_done : (x : Answer) (z : List ℕ) → (work_words ≤ length w → width * length (ns ++ rs) ≤ length o → ⊥)
-        → x.outcome ≡ Refused (refusal_with a.outcome (length rs)) → x.tally ≡ no_tally
+        → x.outcome ≡ Err (refusal_with a.outcome (length rs)) → x.tally ≡ no_tally
         → Gives (done_with_work (ns ++ rs) t w o z) x (e ++ drop (width * k) o) v
     refused_done x z unwell p q =
         go (short_or_not (length w) work_words) (short_or_not (length part) (width * length ns)) (short_or_not (length o) (width * length (ns ++ rs)))
@@ -103,7 +103,7 @@ module _ {t : List ℕ} {facts : Facts} (s : JudgedValid t facts) (ns rs : List 
             → Gives (done_with_work (ns ++ rs) t w o z) x (e ++ drop (width * k) o) v
         refused_with u i j f =
             let d = gives ∙ i in
-            let c : x.outcome ≡ Refused u = p ∙ ap (λ (r : Outcome). Refused (refusal_with r (length rs))) (outcome_is i) ∙ ap Refused f in
+            let c : x.outcome ≡ Err u = p ∙ ap (λ (r : Outcome). Err (refusal_with r (length rs))) (outcome_is i) ∙ ap Err f in
             rw (j, answer_same x c q, kept (ap (λ (x : DoneWithWork). x.room) d), ap (λ (x : DoneWithWork). x.work) d)
 
         go : (length w < work_words) ⊎ (work_words ≤ length w) → (length part < width * length ns) ⊎ (width * length ns ≤ length part)
@@ -119,11 +119,11 @@ module _ {t : List ℕ} {facts : Facts} (s : JudgedValid t facts) (ns rs : List 
             refused_with {b = listed ns y} (AnswerRoom (length (ns ++ rs))) (work_listed ns t w part y s.valid h l ∙ rw (no_words ns part c))
             (work_unlisted (ns ++ rs) t w o z s.valid h m) (ap AnswerRoom (sym both))
 
-    pub never_listed : (why : Refusal) → a.outcome ≡ Refused why → work_words ≤ length w → width * length (ns ++ rs) ≤ length o → ⊥
+    pub never_listed : (why : Refusal) → a.outcome ≡ Err why → work_words ≤ length w → width * length (ns ++ rs) ≤ length o → ⊥
     never_listed why i h f = let l = all_listed h f in let z : ◌≡◌ {A = ℕ} 0 1 = cc in omega arith
 
     -- THE LIST: where names lists n records and the others' are within the room, names has answered as in the whole room
-    module _ (n : ℕ) (i : a.outcome ≡ Listed n) (m : length rs ≤ length o / width) where
+    module _ (n : ℕ) (i : a.outcome ≡ Ok n) (m : length rs ≤ length o / width) where
       h : work_words ≤ length w
       h = (room_for_all n i m).0
 
@@ -161,7 +161,7 @@ module _ {t : List ℕ} {facts : Facts} (s : JudgedValid t facts) (ns rs : List 
       pub listed_done : (b r : Answer) (g : List ℕ)
           → ◌≡◌ {A = Done} (record { answer = b; room = g })
           (done rs t (take (length (e ++ drop (width * k) o) - width * n) (drop (width * n) (e ++ drop (width * k) o))) a.tally)
-          → r.outcome ≡ Listed (n + about b.outcome) → r.tally ≡ b.tally
+          → r.outcome ≡ Ok (n + about b.outcome) → r.tally ≡ b.tally
           → Gives (done_with_work (ns ++ rs) t w o y) r (put_mid (width * n) (length (e ++ drop (width * k) o) - width * n) (e ++ drop (width * k) o) g) v
       listed_done b r g q u x =
           with_work (ns ++ rs) t w o y s.valid h r _ v

@@ -1,5 +1,6 @@
 -- A link of the joined call: one list's records, then another's in the part after them, are the answer of the two as one list.
 -- Assumes nothing.
+use Rattle.std.specs.Prelude.{Ok}
 use Prim.Native.Nat.{ℕ, ◌+◌, ◌*◌, ◌-◌, ◌≤◌, ◌<◌}
 use native.Mathlib.Omega.{arith}
 use mathlib.Core.Path.{◌≡◌, sym, ap, ap₂, ◌∙◌}
@@ -17,7 +18,6 @@ use Rattle.rules.specs.Incompatible.{incompatible_list}
 use Rattle.rules.specs.Dubious.{dubious_list}
 use Rattle.rules.specs.Joined.{raise_all, lint_list}
 use Rattle.rules.specs.Calls.{Done, done}
-use Rattle.rules.specs.declared.Outcome.TheVariants.{Listed}
 use Rattle.rules.specs.declared.Answer.{Answer}
 use Rattle.rules.proofs.Words.{length_words, room_two}
 use Rattle.rules.proofs.Tally.{raise_append}
@@ -90,7 +90,7 @@ module _ {t : List ℕ} {facts : Facts} (xs ys : List Rec) (o y : List ℕ) (fit
 
     pub both_done : (b r : Answer) (e : List ℕ)
         → ◌≡◌ {A = Done} (record { answer = b; room = e }) (done ys t (take (length o₁ - width * n) (drop (width * n) o₁)) a.tally)
-        → r.outcome ≡ Listed (n + about b.outcome) → r.tally ≡ b.tally
+        → r.outcome ≡ Ok (n + about b.outcome) → r.tally ≡ b.tally
         → ◌≡◌ {A = Done} (record { answer = r; room = put_mid (width * n) (length o₁ - width * n) o₁ e }) (done (xs ++ ys) t o y)
     both_done b r e q u w =
         let d : List ℕ = take (length o₁ - width * n) (drop (width * n) o₁) in
@@ -104,5 +104,5 @@ module _ {t : List ℕ} {facts : Facts} (xs ys : List Rec) (o y : List ℕ) (fit
         = ap (λ (z : Done). z.room) g ∙ ap (λ (l : List ℕ). all_words ys ++ drop (width * length ys) l) after in
         let p : put_mid (width * n) (length o₁ - width * n) o₁ e ≡ filled (xs ++ ys) o
         = tail_back (width * n) o₁ e ∙ ap₂ (λ (c d : List ℕ). c ++ d) before v ∙ sym (room_two xs ys o) in
-        ap₂ (λ (c : Answer) (l : List ℕ). record { answer = c; room = l }) (answer_same r (u ∙ ap Listed k) z) p
+        ap₂ (λ (c : Answer) (l : List ℕ). record { answer = c; room = l }) (answer_same r (u ∙ ap Ok k) z) p
         ∙ sym (whole (xs ++ ys) o y fits)

@@ -16,8 +16,8 @@ fn about(o: Outcome) -> usize
     ensures { result ≡ about o }
 {
     match o {
-        Outcome::Listed(n) => n,
-        Outcome::Refused(why) => match why {
+        Ok(n) => n,
+        Err(why) => match why {
             Refusal::Tree(_) => 0,
             Refusal::WorkRoom => 0,
             Refusal::AnswerRoom(n) => n,
@@ -44,13 +44,13 @@ fn rest_needed(t: &[u8], f: Facts, mode: Mode, out: &mut [u32]) -> usize
 // The answer of the passes from one on, where n records stand before it.
 fn after(n: usize, a: Answer) -> Answer
     requires { n + about a.outcome ≤ 18446744073709551615 }
-    ensures { (result.outcome ≡ Outcome.Listed (n + about a.outcome)) × (result.tally ≡ a.tally) }
+    ensures { (result.outcome ≡ Ok (n + about a.outcome)) × (result.tally ≡ a.tally) }
 {
     let o = a.outcome;
     let tally = a.tally;
     let all = n + about(o);
     Answer {
-        outcome: Outcome::Listed(all),
+        outcome: Ok(all),
         tally,
     }
 }
@@ -101,8 +101,8 @@ fn refusal_with(o: Outcome, rest: usize) -> Refusal
     ensures { result ≡ refusal_with o rest }
 {
     match o {
-        Outcome::Listed(n) => Refusal::AnswerRoom(n + rest),
-        Outcome::Refused(why) => match why {
+        Ok(n) => Refusal::AnswerRoom(n + rest),
+        Err(why) => match why {
             Refusal::Tree(r) => Refusal::Tree(r),
             Refusal::WorkRoom => Refusal::WorkRoom,
             Refusal::AnswerRoom(n) => Refusal::AnswerRoom(n + rest),
@@ -122,7 +122,7 @@ fn joined(t: &[u8], f: Facts, mode: Mode, work: &mut [u16], out: &mut [u32], res
     let a = names::lint_valid(t, f, work, &mut out[..lent], zero);
     let o = a.outcome;
     let counts = a.tally;
-    let Outcome::Listed(n) = o else {
+    let Ok(n) = o else {
         return answer::refused(refusal_with(o, rest));
     };
     if room < rest {
@@ -137,7 +137,7 @@ pub fn lint(t: &[u8], mode: Mode, work: &mut [u16], out: &mut [u32]) -> Answer
     ensures { record { answer = result; room = out.new; work = work.new } ≡ lint_call mode t.now work.old out.old }
 {
     let j = judge(t);
-    let Judged::Valid(f) = j else {
+    let Ok(f) = j else {
         return answer::refused(refusal_of(j));
     };
     let rest = rest_needed(t, f, mode, out);

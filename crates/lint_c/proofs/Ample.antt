@@ -1,4 +1,5 @@
 -- What the header says is enough: room for 10,240 records, and YUDRONKHA_LOG_BYTES of output for a log of so many. Assumes nothing.
+use Rattle.std.specs.Prelude.{Ok}
 use Prim.Native.Nat.{ℕ, ◌+◌, ◌*◌, ◌≤◌, ◌<◌}
 use native.Mathlib.Omega.{arith}
 use mathlib.Core.Path.{◌≡◌, ap, ◌∙◌}
@@ -8,7 +9,6 @@ use lib.ListN.{length}
 use Rattle.tree.specs.Judge.{judged}
 use Rattle.tree.specs.declared.Mode.{Mode}
 use Rattle.tree.specs.declared.Facts.{Facts}
-use Rattle.tree.specs.declared.Judged.TheVariants.{Valid}
 use Rattle.rules.specs.Record.{width, all_words, Each}
 use Rattle.rules.specs.Joined.{lint_list, no_tally}
 use Rattle.rules.specs.Outcome.{work_words, refusal}
@@ -25,7 +25,7 @@ use Rattle.lint_c.specs.Face.{number_of, called, as_listed, sarif_called}
 abbrev pub log_bytes : ℕ → ℕ
 log_bytes k = 1617 + 2222 * k
 
-module _ (mode : Mode) (t work room report : List ℕ) (f : Facts) (v : judged t ≡ Valid f) (w : work_words ≤ length work) where
+module _ (mode : Mode) (t work room report : List ℕ) (f : Facts) (v : judged t ≡ Ok f) (w : work_words ≤ length work) where
   pub ample : width * 10240 ≤ length room → (called mode t work room report).number ≡ 0
   ample r =
       let few = file_lint_few t f v mode in

@@ -1,18 +1,17 @@
 -- The calls as C and Rust see them: numbers and slices alone. Assumes nothing.
+use Rattle.std.specs.Prelude.{Ok, Err}
 use Rattle.std.specs.Prelude.{ℕ, min, List, [], ◌∷◌, ◌++◌, length, take, drop}
 use Rattle.tree.specs.declared.Mode.{Mode}
 use Rattle.rules.specs.Codes.{disabled, short_name}
 use Rattle.rules.specs.Outcome as outcome
-use Rattle.rules.specs.declared.Outcome.{Outcome}
-use Rattle.rules.specs.declared.Outcome.TheVariants.{Listed, Refused}
+use Rattle.rules.specs.Outcome.{Outcome}
 use Rattle.rules.specs.declared.Answer.{Answer}
 use Rattle.rules.specs.Calls.{lint_call}
 use Rattle.codes.specs.Named.{severity_of}
 use Rattle.codes.specs.declared.EvalSeverity.{EvalSeverity}
 use Rattle.codes.specs.declared.EvalSeverity.TheVariants.{Disabled, Warning}
 use Rattle.sarif.specs.Calls.{sarif_call}
-use Rattle.sarif.specs.declared.Outcome.{Outcome as log_outcome}
-use Rattle.sarif.specs.declared.Outcome.TheVariants.{Logged, Refused as not_logged}
+use Rattle.sarif.specs.Calls.{Outcome as log_outcome}
 use Rattle.sarif.specs.declared.Answer.{Answer as log_answer}
 
 -- The library's version: major * 10000 + minor * 100 + patch, here 3.1.0
@@ -51,13 +50,13 @@ short_named code room = record { number = length (short_name code); name = laid 
 
 -- 0 where the list is written, else the number of the refusal
 abbrev pub number_of : Outcome → ℕ
-number_of (Listed n) = 0
-number_of (Refused why) = outcome.number_of why
+number_of (Ok n) = 0
+number_of (Err why) = outcome.number_of why
 
 -- the records written, or the refusal's place, which for 11 is the records needed, for 12 the bytes
 abbrev pub place_of : Outcome → ℕ
-place_of (Listed n) = n
-place_of (Refused why) = outcome.place_of why
+place_of (Ok n) = n
+place_of (Err why) = outcome.place_of why
 
 -- word 0, then for each code its count, so that the count of code c is word c
 abbrev pub report_of : Answer → List ℕ
@@ -82,13 +81,13 @@ called mode t work room report = let done = lint_call mode t work room in record
 
 -- a log is answered as its list is
 abbrev pub as_listed : log_outcome → Outcome
-as_listed (Logged n) = Listed n.records
-as_listed (not_logged why) = Refused why
+as_listed (Ok n) = Ok n.records
+as_listed (Err why) = Err why
 
 -- the log's bytes; a refusal writes none
 abbrev pub bytes_of : log_outcome → ℕ
-bytes_of (Logged n) = n.bytes
-bytes_of (not_logged why) = 0
+bytes_of (Ok n) = n.bytes
+bytes_of (Err why) = 0
 
 -- the list's report, and after the last count the log's bytes
 abbrev pub log_report_of : log_answer → List ℕ

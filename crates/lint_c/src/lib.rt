@@ -93,8 +93,8 @@ fn number_of(o: Outcome) -> usize
     ensures { result ≡ number_of o }
 {
     match o {
-        Outcome::Listed(_) => 0,
-        Outcome::Refused(why) => why.number(),
+        Ok(_) => 0,
+        Err(why) => why.number(),
     }
 }
 
@@ -102,8 +102,8 @@ fn place_of(o: Outcome) -> usize
     ensures { result ≡ place_of o }
 {
     match o {
-        Outcome::Listed(n) => n,
-        Outcome::Refused(why) => why.place(),
+        Ok(n) => n,
+        Err(why) => why.place(),
     }
 }
 
@@ -179,8 +179,8 @@ fn as_listed(o: Logged) -> Outcome
     ensures { result ≡ as_listed o }
 {
     match o {
-        Logged::Logged(n) => Outcome::Listed(n.records),
-        Logged::Refused(why) => Outcome::Refused(why),
+        Ok(n) => Ok(n.records),
+        Err(why) => Err(why),
     }
 }
 
@@ -188,8 +188,8 @@ fn bytes_of(o: Logged) -> usize
     ensures { result ≡ bytes_of o }
 {
     match o {
-        Logged::Logged(n) => n.bytes,
-        Logged::Refused(_) => 0,
+        Ok(n) => n.bytes,
+        Err(_) => 0,
     }
 }
 

@@ -1,4 +1,5 @@
 -- The warnings as records, and what the call answers of them. Assumes nothing.
+use Rattle.std.specs.Prelude.{Ok, Err}
 use Prim.Native.Nat.{ℕ, zero, suc, ◌+◌, ◌/◌, ◌≤◌, ◌<◌}
 use native.Mathlib.Omega.{arith}
 use mathlib.Core.Path.{◌≡◌, refl, sym, ap, ◌∙◌}
@@ -7,8 +8,6 @@ use lib.ListN.{length, set, take, drop, replicate}
 use lib.Seq.{length-take-le}
 use Rattle.tree.specs.Judge.{judged}
 use Rattle.tree.specs.declared.Facts.{Facts}
-use Rattle.tree.specs.declared.Judged.TheVariants.{Valid}
-use Rattle.rules.specs.declared.Outcome.TheVariants.{Listed, Refused}
 use Rattle.rules.specs.declared.Refusal.TheVariants.{WorkRoom, AnswerRoom}
 use Rattle.rules.specs.declared.Answer.{Answer}
 use Rattle.rules.specs.Record.{Rec, width}
@@ -49,7 +48,7 @@ module _ (t w : List ℕ) (n : ℕ) (few : n ≤ 1024) (o y : List ℕ) (a : Ans
   few_records : length (records_of t w n) ≤ 18446744073709551615
   few_records = omega (arith, records_length t w n)
 
-  pub short_of : length o / width < n → a.outcome ≡ Refused (AnswerRoom n) → a.tally ≡ no_tally
+  pub short_of : length o / width < n → a.outcome ≡ Err (AnswerRoom n) → a.tally ≡ no_tally
       → Answers (records_of t w n) o y a o
   short_of h p q = record {
     answers = λ u f v.
@@ -61,7 +60,7 @@ module _ (t w : List ℕ) (n : ℕ) (few : n ≤ 1024) (o y : List ℕ) (a : Ans
   }
 
   pub listed_of : (o₁ : List ℕ) (s c : Sheet) → n ≤ length o / width → s.count ≡ 0 → s.tally ≡ y
-      → page o₁ c ≡ writes (page o s) (records_of t w n) → a.outcome ≡ Listed c.count → a.tally ≡ c.tally
+      → page o₁ c ≡ writes (page o s) (records_of t w n) → a.outcome ≡ Ok c.count → a.tally ≡ c.tally
       → Answers (records_of t w n) o y a o₁
   listed_of o₁ s c h fresh start wr p q = record {
     answers = λ u f v.
@@ -99,8 +98,8 @@ zeros_front k v w h e = ap (λ (l : List ℕ). l ++ drop k w) (e ∙ ap (λ (n :
 
 -- ---- the whole call
 
-module _ (t : List ℕ) (f : Facts) (valid : judged t ≡ Valid f) (rs : List Rec) (w o y : List ℕ) (a : Answer) where
-  pub unlent : length w < work_words → a.outcome ≡ Refused WorkRoom → a.tally ≡ no_tally → Gives (done_with_work rs t w o y) a o w
+module _ (t : List ℕ) (f : Facts) (valid : judged t ≡ Ok f) (rs : List Rec) (w o y : List ℕ) (a : Answer) where
+  pub unlent : length w < work_words → a.outcome ≡ Err WorkRoom → a.tally ≡ no_tally → Gives (done_with_work rs t w o y) a o w
   unlent h p q = rw (work_lacking rs t w o y valid h, answer_same a p q)
 
   pub lent : (o₁ w₁ : List ℕ) → work_words ≤ length w → Answers rs o y a o₁ → w₁ ≡ cleared w → Gives (done_with_work rs t w o y) a o₁ w₁

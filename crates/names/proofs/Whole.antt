@@ -1,4 +1,5 @@
 -- A judged file is ready for the walk, and its warnings are 01's list. Assumes nothing.
+use Rattle.std.specs.Prelude.{Ok}
 use Prim.Native.Nat.{ℕ, ◌≤◌, ◌<◌}
 use native.Mathlib.Omega.{arith}
 use mathlib.Core.Path.{◌≡◌, sym, ap, ◌∙◌}
@@ -10,7 +11,6 @@ use Rattle.tree.specs.Table.{table_of, underscored, spells, globals_of}
 use Rattle.tree.specs.code.Numbers.{number_named}
 use Rattle.tree.specs.Judge.{judged}
 use Rattle.tree.specs.declared.Facts.{Facts}
-use Rattle.tree.specs.declared.Judged.TheVariants.{Valid}
 use Rattle.tree.proofs.Whole.{sound, whole}
 use Rattle.tree.proofs.ValidTable.{spells_number}
 use Rattle.tree.proofs.Fields.{value_low}
@@ -26,7 +26,7 @@ use Rattle.scope.specs.Does.{RoomFor}
 use Rattle.names.specs.Walk.{named_by, want_of, visit_of, module_of, Ready}
 use Rattle.names.proofs.Fails.{takes_same}
 
-module _ (t : List ℕ) (f : Facts) (v : judged t ≡ Valid f) (bytes : (k : ℕ) → get_or t k 0 < 256) where
+module _ (t : List ℕ) (f : Facts) (v : judged t ≡ Ok f) (bytes : (k : ℕ) → get_or t k 0 < 256) where
   pub same_tree : module_of t f.nodes ≡ body (spells (table_of t) fail_name) (tree_of t)
   unfolding module_of visit_of want_of tree_of
   same_tree =

@@ -1,4 +1,3 @@
 -- What the contracts of names cite.
 pub mod Walk
-pub mod Answers
 pub mod Records

@@ -4,7 +4,6 @@
 
 ghost use Rattle.std.specs.Prelude.{◌≡◌, map, ◌≤◌, ◌<◌, length, replicate};
 ghost use Rattle.tree.specs.Judge.{judged};
-ghost use Rattle.tree.specs.declared.Judged.TheVariants.{Valid};
 ghost use Rattle.tree.specs.code.Part.{Part};
 ghost use Rattle.tree.specs.Table.{table_of, underscored, globals_of};
 ghost use Rattle.rules.specs.Names.{met, told};
@@ -124,7 +123,7 @@ pub fn lint_valid(
     out: &mut [u32],
     tally: [usize; CODES],
 ) -> Answer
-    requires { judged t.now ≡ Valid f }
+    requires { judged t.now ≡ Ok f }
     ensures { record { answer = result; room = out.new; work = work.new } ≡ names_call t.now work.old out.old tally }
 {
     if work.len() < WORK_WORDS {
@@ -138,7 +137,7 @@ pub fn names(t: &[u8], work: &mut [u16], out: &mut [u32], tally: [usize; CODES])
     ensures { record { answer = result; room = out.new; work = work.new } ≡ names_call t.now work.old out.old tally }
 {
     let j = judge(t);
-    let Judged::Valid(f) = j else {
+    let Ok(f) = j else {
         return answer::refused(answer::refusal_of(j));
     };
     lint_valid(t, f, work, out, tally)

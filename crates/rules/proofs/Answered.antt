@@ -1,4 +1,5 @@
 -- What a call answers and leaves, check by check: for the proofs of every call. Assumes nothing.
+use Rattle.std.specs.Prelude.{Ok, Err}
 use Prim.Native.Nat.{ℕ, ◌*◌, ◌≤◌, ◌<◌}
 use native.Mathlib.Omega.{arith}
 use mathlib.Core.Path.{◌≡◌, refl, ap, ◌∙◌}
@@ -12,12 +13,10 @@ use borrow.Author.Tests.{lt-ltb, le-ltb, ltb-true, ltb-false}
 use Rattle.tree.specs.Judge.{judged}
 use Rattle.tree.specs.declared.Facts.{Facts}
 use Rattle.tree.specs.declared.Refusal as tree
-use Rattle.tree.specs.declared.Judged.{Judged}
-use Rattle.tree.specs.declared.Judged.TheVariants.{Valid, Refused as Unfit}
+use Rattle.tree.specs.Judge.{Judged}
 use Rattle.rules.specs.declared.Refusal.{Refusal}
 use Rattle.rules.specs.declared.Refusal.TheVariants.{Tree, WorkRoom, AnswerRoom, OtherRoom}
-use Rattle.rules.specs.declared.Outcome.{Outcome}
-use Rattle.rules.specs.declared.Outcome.TheVariants.{Listed, Refused}
+use Rattle.rules.specs.Outcome.{Outcome}
 use Rattle.rules.specs.declared.Answer.{Answer}
 use Rattle.rules.specs.Record.{Rec, width, all_words}
 use Rattle.rules.specs.Joined.{no_tally, raise_all}
@@ -36,11 +35,11 @@ short_or_not a b = go (ltb a b) refl
 -- ---- a check that gives its refusal, and one that lets the next ones decide
 
 module _ (cs : List Check) where
-  pub unfit : {j : Judged} {why : tree.Refusal} → j ≡ Unfit why → refusal (the_file j ∷ cs) ≡ some (Tree why)
+  pub unfit : {j : Judged} {why : tree.Refusal} → j ≡ Err why → refusal (the_file j ∷ cs) ≡ some (Tree why)
   unfolding refusal
   unfit e = rw e
 
-  pub fit : {j : Judged} {f : Facts} → j ≡ Valid f → refusal (the_file j ∷ cs) ≡ refusal cs
+  pub fit : {j : Judged} {f : Facts} → j ≡ Ok f → refusal (the_file j ∷ cs) ≡ refusal cs
   unfolding refusal
   fit e = rw e
 
@@ -94,10 +93,10 @@ room_passed a b n lent = go (gives a) (gives b) (ltb lent (width * n)) refl
 
 -- a refusal's; a list's
 abbrev pub refused : Refusal → Answer
-refused why = record { outcome = Refused why; tally = no_tally }
+refused why = record { outcome = Err why; tally = no_tally }
 
 abbrev pub listed : List Rec → List ℕ → Answer
-listed rs tally = record { outcome = Listed (length rs); tally = raise_all rs tally }
+listed rs tally = record { outcome = Ok (length rs); tally = raise_all rs tally }
 
 -- the answer room with a list in it
 abbrev pub filled : List Rec → List ℕ → List ℕ
@@ -114,16 +113,16 @@ module _ (rs : List Rec) (t room tally : List ℕ) where
   unfolding done
   by e = rw e
 
-  pub done_unfit : {why : tree.Refusal} → judged t ≡ Unfit why → done rs t room tally ≡ record { answer = refused (Tree why); room = room }
+  pub done_unfit : {why : tree.Refusal} → judged t ≡ Err why → done rs t room tally ≡ record { answer = refused (Tree why); room = room }
   unfolding answer_by room_by
   done_unfit e = by (unfit _ e)
 
-  pub done_short : {f : Facts} → judged t ≡ Valid f → length room < width * length rs
+  pub done_short : {f : Facts} → judged t ≡ Ok f → length room < width * length rs
       → done rs t room tally ≡ record { answer = refused (AnswerRoom (length rs)); room = room }
   unfolding answer_by room_by
   done_short e h = by (fit _ e ∙ room_short _ (length rs) (length room) h)
 
-  pub done_listed : {f : Facts} → judged t ≡ Valid f → width * length rs ≤ length room
+  pub done_listed : {f : Facts} → judged t ≡ Ok f → width * length rs ≤ length room
       → done rs t room tally ≡ record { answer = listed rs tally; room = filled rs room }
   unfolding answer_by room_by
   done_listed e h = by (fit _ e ∙ (room_enough _ (length rs) (length room) h ∙ all_passed))
@@ -136,28 +135,28 @@ module _ (rs : List Rec) (t work room tally : List ℕ) where
   unfolding done_with_work
   by_with_work e = rw e
 
-  pub work_unfit : {why : tree.Refusal} → judged t ≡ Unfit why
+  pub work_unfit : {why : tree.Refusal} → judged t ≡ Err why
       → done_with_work rs t work room tally ≡ record { answer = refused (Tree why); room = room; work = work }
   unfolding answer_by room_by work_by
   work_unfit e = by_with_work (unfit _ e)
 
-  pub work_lacking : {f : Facts} → judged t ≡ Valid f → length work < work_words
+  pub work_lacking : {f : Facts} → judged t ≡ Ok f → length work < work_words
       → done_with_work rs t work room tally ≡ record { answer = refused WorkRoom; room = room; work = work }
   unfolding answer_by room_by work_by
   work_lacking e l = by_with_work (fit _ e ∙ work_short _ (length work) l)
 
-  pub work_unlisted : {f : Facts} → judged t ≡ Valid f → work_words ≤ length work → length room < width * length rs
+  pub work_unlisted : {f : Facts} → judged t ≡ Ok f → work_words ≤ length work → length room < width * length rs
       → done_with_work rs t work room tally ≡ record { answer = refused (AnswerRoom (length rs)); room = room; work = cleared work }
   unfolding answer_by room_by work_by
   work_unlisted e l h = by_with_work (fit _ e ∙ (work_enough _ (length work) l ∙ room_short _ (length rs) (length room) h))
 
-  pub work_listed : {f : Facts} → judged t ≡ Valid f → work_words ≤ length work → width * length rs ≤ length room
+  pub work_listed : {f : Facts} → judged t ≡ Ok f → work_words ≤ length work → width * length rs ≤ length room
       → done_with_work rs t work room tally ≡ record { answer = listed rs tally; room = filled rs room; work = cleared work }
   unfolding answer_by room_by work_by
   work_listed e l h = by_with_work (fit _ e ∙ (work_enough _ (length work) l ∙ (room_enough _ (length rs) (length room) h ∙ all_passed)))
 
   -- names ran: what it answers and leaves in the answer room, with the work room cleared
-  pub with_work : {f : Facts} → judged t ≡ Valid f → work_words ≤ length work → (a : Answer) (room' work' : List ℕ)
+  pub with_work : {f : Facts} → judged t ≡ Ok f → work_words ≤ length work → (a : Answer) (room' work' : List ℕ)
       → ◌≡◌ {A = Done} (record { answer = a; room = room' }) (done rs t room tally) → work' ≡ cleared work
       → ◌≡◌ {A = DoneWithWork} (record { answer = a; room = room'; work = work' }) (done_with_work rs t work room tally)
   with_work e l a room' work' d z = go (short_or_not (length room) (width * length rs))

@@ -1,4 +1,5 @@
 -- The three demands, read of what a public call that runs names answers and leaves: of any list, and of names' own call.
+use Rattle.std.specs.Prelude.{Ok, Err}
 use Prim.Native.Nat.{ℕ, zero, suc, ◌*◌, ◌≤◌, ◌<◌}
 use native.Mathlib.Omega.{arith}
 use mathlib.Core.Path.{◌≡◌, refl, sym, ap, ◌∙◌}
@@ -15,8 +16,7 @@ use Rattle.tree.specs.Table.{table_of, spells}
 use Rattle.tree.specs.declared.Facts.{Facts}
 use Rattle.tree.specs.declared.Refusal.{Refusal as Unfitness}
 use Rattle.tree.specs.declared.Refusal.TheVariants.{Mark, Version, Counts, Sections, Value, Node, Children, Depth, Global}
-use Rattle.tree.specs.declared.Judged.{Judged}
-use Rattle.tree.specs.declared.Judged.TheVariants.{Valid, Refused as Unfit}
+use Rattle.tree.specs.Judge.{Judged}
 use Rattle.rules.specs.Record.{Rec, width, named_at, all_words}
 use Rattle.rules.specs.Order.{fail_name}
 use Rattle.rules.specs.Names.{names_list}
@@ -29,7 +29,6 @@ use Rattle.rules.specs.Letter.{Told, Demand3}
 use Rattle.rules.specs.Afterwards.{records_in, Gives, Lists, Refuses, WarnedOrRefused, warned, refused}
 use Rattle.rules.specs.declared.Refusal.{Refusal}
 use Rattle.rules.specs.declared.Refusal.TheVariants.{Tree, WorkRoom, AnswerRoom}
-use Rattle.rules.specs.declared.Outcome.TheVariants.{Listed}
 use Rattle.rules.specs.declared.Answer.{Answer}
 use Rattle.rules.proofs.Words.{length_words}
 use Rattle.rules.proofs.Answered.{short_or_not, unfit, fit, work_short, work_enough, room_short, room_enough, all_passed, room_passed, refused as refused_as, listed, filled}
@@ -108,7 +107,7 @@ module _ (rs : List Rec) (t work room tally : List ℕ) (a : Answer) (room' work
       }
 
   -- DEMAND 2: a valid file with room enough has its list
-  pub lists : (f : Facts) → judged t ≡ Valid f → work_words ≤ length work → width * length rs ≤ length room → Lists rs t tally work room a room' work'
+  pub lists : (f : Facts) → judged t ≡ Ok f → work_words ≤ length work → width * length rs ≤ length room → Lists rs t tally work room a room' work'
   lists f e h l = lists_by l (fit _ e ∙ (work_enough _ (length work) h ∙ (room_enough _ (length rs) (length room) l ∙ all_passed)))
 
   -- DEMAND 1: "Every byte string handed in as a tree gets warnings or one numbered refusal from document 01. .. A refusal writes no
@@ -118,15 +117,15 @@ module _ (rs : List Rec) (t work room tally : List ℕ) (a : Answer) (room' work
     where
       go : (j : Judged) → judged t ≡ j → (length work < work_words) ⊎ (work_words ≤ length work)
           → (length room < width * length rs) ⊎ (width * length rs ≤ length room) → WarnedOrRefused rs t tally work room a room' work'
-      go (Unfit why) e w r = refused (Tree why) (refuses (Tree why) (tree_numbered why) (unfit _ e))
-      go (Valid f) e (inl h) r = refused WorkRoom (refuses WorkRoom (omega arith, omega arith) (fit _ e ∙ work_short _ (length work) h))
-      go (Valid f) e (inr h) (inl l) =
+      go (Err why) e w r = refused (Tree why) (refuses (Tree why) (tree_numbered why) (unfit _ e))
+      go (Ok f) e (inl h) r = refused WorkRoom (refuses WorkRoom (omega arith, omega arith) (fit _ e ∙ work_short _ (length work) h))
+      go (Ok f) e (inr h) (inl l) =
           refused (AnswerRoom (length rs)) (refuses (AnswerRoom (length rs)) (omega arith, omega arith)
           (fit _ e ∙ (work_enough _ (length work) h ∙ room_short _ (length rs) (length room) l)))
-      go (Valid f) e (inr h) (inr l) = warned (lists f e h l)
+      go (Ok f) e (inr h) (inr l) = warned (lists f e h l)
 
   -- an answer that says how many records there are has the whole list
-  pub records_all : (n : ℕ) → a.outcome ≡ Listed n → records_in n room' ≡ rs
+  pub records_all : (n : ℕ) → a.outcome ≡ Ok n → records_in n room' ≡ rs
   records_all n i = go warned_or_refused
     where
       go : WarnedOrRefused rs t tally work room a room' work' → records_in n room' ≡ rs
@@ -134,17 +133,17 @@ module _ (rs : List Rec) (t work room tally : List ℕ) (a : Answer) (room' work
       go (refused why l) = let z : ◌≡◌ {A = ℕ} 0 1 = cc (l.outcome, i) in absurd (omega arith)
 
   -- ... and its file is valid
-  pub valid_where_listed : (n : ℕ) → a.outcome ≡ Listed n → (f : Facts) × (judged t ≡ Valid f)
+  pub valid_where_listed : (n : ℕ) → a.outcome ≡ Ok n → (f : Facts) × (judged t ≡ Ok f)
   valid_where_listed n i = go (judged t) refl
     where
-      go : (j : Judged) → judged t ≡ j → (f : Facts) × (judged t ≡ Valid f)
-      go (Valid f) e = (f, e)
-      go (Unfit why) e =
+      go : (j : Judged) → judged t ≡ j → (f : Facts) × (judged t ≡ Ok f)
+      go (Ok f) e = (f, e)
+      go (Err why) e =
           let l = refuses (Tree why) (tree_numbered why) (unfit _ e) in
           let z : ◌≡◌ {A = ℕ} 0 1 = cc (l.outcome, i) in absurd (omega arith)
 
   -- ... which has room
-  pub room_where_listed : (n : ℕ) → a.outcome ≡ Listed n → width * n ≤ length room'
+  pub room_where_listed : (n : ℕ) → a.outcome ≡ Ok n → width * n ≤ length room'
   room_where_listed n i = go warned_or_refused
     where
       go : WarnedOrRefused rs t tally work room a room' work' → width * n ≤ length room'
@@ -170,8 +169,8 @@ module _ {is_fail is_none : ℕ → Bool} {f : Forest} where
       both s (inr m) = inr (g (named_at 6 s) m)
 
 -- DEMAND 3 of names' own call: its names half is about the records that the call leaves in the answer room
-pub names_demand3 : (t : List ℕ) (f : Facts) → judged t ≡ Valid f → Premises (tree_of t) → (work room tally : List ℕ)
-    (a : Answer) (room' work' : List ℕ) → Gives (names_call t work room tally) a room' work' → (n : ℕ) → a.outcome ≡ Listed n
+pub names_demand3 : (t : List ℕ) (f : Facts) → judged t ≡ Ok f → Premises (tree_of t) → (work room tally : List ℕ)
+    (a : Answer) (room' work' : List ℕ) → Gives (names_call t work room tally) a room' work' → (n : ℕ) → a.outcome ≡ Ok n
     → Demand3 (spells (table_of t) fail_name) (spells (table_of t) none_name) (tree_of t) (records_in n room') (flow_list t)
 names_demand3 t f v p work room tally a room' work' g n i =
     rw (records_all (names_list t) t work room tally a room' work' g n i) (file_demand3 t f v p)

@@ -1,5 +1,6 @@
 -- 02, §13, "More known names": with the same nodes and values and with globals given twice, the second containing the first, the
 -- second list is the first without the code 5 records whose name the second holds. Assumes nothing.
+use Rattle.std.specs.Prelude.{Ok}
 use Prim.Native.Nat.{ℕ}
 use mathlib.Core.Path.{◌≡◌, refl, sym, ap, ap₂, subst, ◌∙◌}
 use mathlib.Core.Bool.{Bool, true, false, not, ◌&&◌, ◌||◌}
@@ -12,7 +13,6 @@ use Rattle.tree.specs.Table.{table_of, spells, underscored, is_global, globals_o
 use Rattle.tree.specs.Releases.{SameScript, MoreKnown}
 use Rattle.tree.specs.Judge.{judged}
 use Rattle.tree.specs.declared.Facts.{Facts}
-use Rattle.tree.specs.declared.Judged.TheVariants.{Valid}
 use Rattle.tree.specs.declared.Mode.{Mode}
 use Rattle.tree.proofs.Search.{clash}
 use Rattle.tree.proofs.Releases.{same_table, same_tree, given_globals, ungiven_globals}
@@ -158,7 +158,7 @@ module _ (u : List ℕ) where
 
 -- ---- files
 
-module _ (t u : List ℕ) (s : SameScript t u) (f : Facts) (v : judged t ≡ Valid f) where
+module _ (t u : List ℕ) (s : SameScript t u) (f : Facts) (v : judged t ≡ Ok f) where
   pub same_flow : flow_list u ≡ flow_list t
   unfolding flow_list
   same_flow = rw (same_table t u s, same_tree t u s f v)
@@ -192,7 +192,7 @@ module _ (t u : List ℕ) (s : SameScript t u) (f : Facts) (v : judged t ≡ Val
       (sym (ap (keep (λ r. not (eqb r.code 5))) q ∙ keep_each (λ r. not (eqb r.code 5)) rs (each_more _ _ (λ r k. ap not k) rs h)))
       ∙ sym (keep_append (λ r. not (eqb r.code 5)) (names_list u) qs)
 
-module _ (t u : List ℕ) (m : MoreKnown t u) (f : Facts) (v : judged t ≡ Valid f) where
+module _ (t u : List ℕ) (m : MoreKnown t u) (f : Facts) (v : judged t ≡ Ok f) where
   -- THE NAMES LIST
   pub quieted_names : QuietedBy u (names_list t) (names_list u)
   unfolding names_list

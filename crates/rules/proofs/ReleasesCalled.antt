@@ -1,4 +1,5 @@
 -- 02, §13, read of what two calls answer and leave: of any list, and of the passes' own calls. Assumes nothing.
+use Rattle.std.specs.Prelude.{Ok}
 use Prim.Native.Nat.{ℕ, zero, suc, ◌*◌, ◌≤◌}
 use native.Mathlib.Omega.{arith}
 use mathlib.Core.Path.{◌≡◌, refl, sym, ap, ◌∙◌}
@@ -11,7 +12,6 @@ use Rattle.tree.specs.Releases.{SameScript, MoreKnown}
 use Rattle.tree.specs.Table.{is_global}
 use Rattle.tree.specs.Judge.{judged}
 use Rattle.tree.specs.declared.Facts.{Facts}
-use Rattle.tree.specs.declared.Judged.TheVariants.{Valid}
 use Rattle.tree.specs.declared.Mode.{Mode}
 use Rattle.rules.specs.Record.{Rec, width, keep}
 use Rattle.rules.specs.Names.{names_list}
@@ -24,7 +24,6 @@ use Rattle.rules.specs.Calls.{done, done_with_work, names_call, flow_call, incom
 use Rattle.rules.specs.Afterwards.{records_in, Gives, WarnedOrRefused, warned, refused}
 use Rattle.rules.specs.Releases.{QuietedBy, count_in, QuietedCall}
 use Rattle.rules.specs.declared.Answer.{Answer}
-use Rattle.rules.specs.declared.Outcome.TheVariants.{Listed}
 use Rattle.rules.proofs.Lists.{keep_so, keep_not, keep_fewer}
 use Rattle.rules.proofs.Tally.{length_raise, set_there}
 use Rattle.rules.proofs.Called.{length_records, warned_or_refused, lists, records_all, valid_where_listed}
@@ -103,7 +102,7 @@ module _ (u : List ℕ) (rs qs : List Rec) (quiet : QuietedBy u rs qs) where
   module _ (t work room tally : List ℕ) (a : Answer) (room' work' : List ℕ) (gives : Gives (done_with_work rs t work room tally) a room' work')
       (work₂ room₂ : List ℕ) (b : Answer) (room₂' work₂' : List ℕ) (gives₂ : Gives (done_with_work qs u work₂ room₂ tally) b room₂' work₂') where
     -- THE CALLS: where both have their lists
-    pub quieted_call : (n m : ℕ) → a.outcome ≡ Listed n → b.outcome ≡ Listed m → QuietedCall u n m room' room₂' a.tally b.tally
+    pub quieted_call : (n m : ℕ) → a.outcome ≡ Ok n → b.outcome ≡ Ok m → QuietedCall u n m room' room₂' a.tally b.tally
     quieted_call n m i j =
         go (warned_or_refused rs t work room tally a room' work' gives) (warned_or_refused qs u work₂ room₂ tally b room₂' work₂' gives₂)
       where
@@ -117,8 +116,8 @@ module _ (u : List ℕ) (rs qs : List Rec) (quiet : QuietedBy u rs qs) where
             rw (x, y, l.counts, k.counts) (quieted_left room' room₂' tally l.records k.records)
 
     -- THE ROOM: what is enough for the first is enough for the second
-    pub no_more_room : (f : Facts) → judged u ≡ Valid f → work_words ≤ length work₂ → (n : ℕ) → a.outcome ≡ Listed n → width * n ≤ length room₂
-        → b.outcome ≡ Listed (length qs)
+    pub no_more_room : (f : Facts) → judged u ≡ Ok f → work_words ≤ length work₂ → (n : ℕ) → a.outcome ≡ Ok n → width * n ≤ length room₂
+        → b.outcome ≡ Ok (length qs)
     no_more_room f v w n i o =
         let e = length_records n room' in
         let d = ap length (records_all rs t work room tally a room' work' gives n i) in
@@ -129,21 +128,21 @@ module _ (u : List ℕ) (rs qs : List Rec) (quiet : QuietedBy u rs qs) where
 module _ (t u : List ℕ) (k : MoreKnown t u) (work room tally : List ℕ) (a : Answer) (room' work' : List ℕ)
     (gives : Gives (names_call t work room tally) a room' work')
     (work₂ room₂ : List ℕ) (b : Answer) (room₂' work₂' : List ℕ) (gives₂ : Gives (names_call u work₂ room₂ tally) b room₂' work₂')
-    (n : ℕ) (i : a.outcome ≡ Listed n) where
+    (n : ℕ) (i : a.outcome ≡ Ok n) where
   quiet : QuietedBy u (names_list t) (names_list u)
   quiet = let v = valid_where_listed (names_list t) t work room tally a room' work' gives n i in quieted_names t u k v.0 v.1
 
-  pub names_quieted : (m : ℕ) → b.outcome ≡ Listed m → QuietedCall u n m room' room₂' a.tally b.tally
+  pub names_quieted : (m : ℕ) → b.outcome ≡ Ok m → QuietedCall u n m room' room₂' a.tally b.tally
   names_quieted m j =
       quieted_call u (names_list t) (names_list u) quiet t work room tally a room' work' gives work₂ room₂ b room₂' work₂' gives₂ n m i j
 
-  pub names_room : (f : Facts) → judged u ≡ Valid f → work_words ≤ length work₂ → width * n ≤ length room₂ → b.outcome ≡ Listed (length (names_list u))
+  pub names_room : (f : Facts) → judged u ≡ Ok f → work_words ≤ length work₂ → width * n ≤ length room₂ → b.outcome ≡ Ok (length (names_list u))
   names_room f v w o =
       no_more_room u (names_list t) (names_list u) quiet t work room tally a room' work' gives work₂ room₂ b room₂' work₂' gives₂ f v w n i o
 
 -- ---- the calls of the other passes answer and leave the same
 
-module _ (t u : List ℕ) (s : SameScript t u) (f g : Facts) (v : judged t ≡ Valid f) (w : judged u ≡ Valid g) where
+module _ (t u : List ℕ) (s : SameScript t u) (f g : Facts) (v : judged t ≡ Ok f) (w : judged u ≡ Ok g) where
   same_done : (rs qs : List Rec) → qs ≡ rs → (room tally : List ℕ) → done qs u room tally ≡ done rs t room tally
   unfolding done
   same_done rs qs e room tally = rw (e, fit _ v, fit _ w)

@@ -1,5 +1,6 @@
 -- 02, §13, of small files: two releases that meet its premises, and why "The case without globals given stands outside". Their lists are
 -- computed (Examples). Assumes nothing.
+use Rattle.std.specs.Prelude.{Ok}
 use Prim.Native.Nat.{ℕ}
 use native.Mathlib.Omega.{arith}
 use mathlib.Core.Path.{◌≡◌, refl, ap}
@@ -15,7 +16,6 @@ use Rattle.tree.specs.Table.{wrong_value, wrong_global}
 use Rattle.tree.specs.Nodes.{parent_in, parent_of, limit_of, known, wrong_node, depth_in, depth_of, too_deep}
 use Rattle.tree.specs.Children.{class_of, slot_of, all_stand, many, all_filled, in_pairs, for_first, in_order, kids_fit, root_ok, wrong_children}
 use Rattle.tree.specs.Judge.{checks, facts_of, judged}
-use Rattle.tree.specs.declared.Judged.TheVariants.{Valid}
 use Rattle.tree.specs.Releases.{Given, MoreKnown}
 use Rattle.tree.specs.declared.Mode.{Mode}
 use Rattle.tree.specs.declared.Mode.TheVariants.{Ordinary, Strict}
@@ -51,7 +51,7 @@ releases version =
 
 -- .. and all these files are valid
 abbrev IsValid : List ℕ → Type 0
-IsValid t = judged t ≡ Valid (facts_of t)
+IsValid t = judged t ≡ Ok (facts_of t)
 
 pub releases_valid : ((IsValid (release_1 1) × IsValid (release_2 1)) × (IsValid (release_1 2) × IsValid (release_2 2))) × IsValid (not_released 1)
 unfolding judged checks first u16_at u32_at version_of node_count value_count global_count kind_at role_at size_at begin_at end_at value_at last_at node_spot node_head forest_in forest_of tree_of offset formed precedes wrong_value wrong_global parent_in parent_of limit_of known wrong_node depth_in depth_of too_deep class_of slot_of all_stand many all_filled in_pairs for_first in_order kids_fit root_ok wrong_children

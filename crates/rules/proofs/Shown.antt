@@ -1,5 +1,6 @@
 -- Demand 3's runs on small trees, each way of going on once: what they allow, what they don't, and what each premise keeps out;
 -- at last the demand of a file's bytes.
+use Rattle.std.specs.Prelude.{Ok}
 use Prim.Native.Nat.{ℕ, ◌+◌, ◌*◌}
 use mathlib.Core.Path.{◌≡◌, refl, sym, ap, subst}
 use mathlib.Core.Bool.{Bool, true, false, not}
@@ -18,7 +19,6 @@ use Rattle.tree.specs.Nodes.{parent_in, parent_of, limit_of, known, wrong_node, 
 use Rattle.tree.specs.Children.{class_of, slot_of, all_stand, many, all_filled, in_pairs, for_first, in_order, kids_fit, root_ok, wrong_children}
 use Rattle.tree.specs.Judge.{checks, facts_of, judged}
 use Rattle.tree.specs.code.Shape.{valid, root_fits, fitting}
-use Rattle.tree.specs.declared.Judged.TheVariants.{Valid}
 use Rattle.rules.specs.Order.{Stop, bare, fails, Cmd, ◌⨟◌, stop, loop, of_role, binds, takes, body, def_body, fail_name}
 use Rattle.rules.specs.Names.{names, met, told, met_in, names_list}
 use Rattle.rules.specs.Flow.{flow}
@@ -412,7 +412,7 @@ swapped_list = refl
 
 -- A FILE'S BYTES: 01's for i in xs with print(a), a = 1 inside (Known). It is judged valid, its tree meets the premises, a run reaches
 -- the use of a in the first round, and so the use is told; under 6, as the list shows.
-pub bytes_valid : judged looped_file ≡ Valid (record { version = 1; nodes = 12; values = 5; names = 4; globals = 65535; rest = 228 })
+pub bytes_valid : judged looped_file ≡ Ok (record { version = 1; nodes = 12; values = 5; names = 4; globals = 65535; rest = 228 })
 unfolding judged checks facts_of first_of_places u16_at u32_at version_of node_count value_count global_count kind_at role_at size_at begin_at end_at value_at last_at node_spot node_head forest_in forest_of tree_of offset formed precedes wrong_value wrong_global parent_in parent_of limit_of known wrong_node depth_in depth_of too_deep class_of slot_of all_stand many all_filled in_pairs for_first in_order kids_fit root_ok wrong_children
 bytes_valid = refl
 

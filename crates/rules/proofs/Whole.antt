@@ -1,4 +1,5 @@
 -- What is proved of valid trees, of every file that is judged valid.
+use Rattle.std.specs.Prelude.{Ok}
 use Prim.Native.Nat.{ℕ, ◌≤◌}
 use native.Mathlib.Omega.{arith}
 use mathlib.Core.Path.{◌≡◌}
@@ -10,7 +11,6 @@ use Rattle.tree.specs.declared.Mode.{Mode}
 use Rattle.tree.specs.Judge.{judged}
 use Rattle.tree.specs.code.Shape.{count}
 use Rattle.tree.specs.declared.Facts.{Facts}
-use Rattle.tree.specs.declared.Judged.TheVariants.{Valid}
 use Rattle.tree.proofs.Whole.{sound}
 use Rattle.tree.proofs.Fits.{tree_valid, tree_count}
 use Rattle.rules.specs.Order.{body, fail_name}
@@ -28,7 +28,7 @@ unfolding count
 nodes_count leaf = omega arith
 nodes_count (node h k s) = let a = nodes_count k in let b = nodes_count s in omega arith
 
-module _ (t : List ℕ) (f : Facts) (v : judged t ≡ Valid f) where
+module _ (t : List ℕ) (f : Facts) (v : judged t ≡ Ok f) where
   pub file_nodes : nodes (tree_of t) ≡ f.nodes
   file_nodes = let a = nodes_count (tree_of t) in let b = tree_count t f v in omega arith
 

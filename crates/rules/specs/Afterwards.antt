@@ -1,4 +1,5 @@
 -- What a call leaves, as who reads the lent words afterwards finds it: for the demands, read of a public call. Assumes nothing.
+use Rattle.std.specs.Prelude.{Ok, Err}
 use Rattle.std.specs.Prelude.{ℕ, zero, suc, ◌*◌, ◌≤◌, ◌≡◌, List, [], ◌∷◌, length, drop, get_or}
 use Rattle.std.proofs.Math.Option.{none, some}
 use Rattle.rules.specs.Record.{Rec, width}
@@ -6,7 +7,6 @@ use Rattle.rules.specs.Joined.{no_tally, raise_all}
 use Rattle.rules.specs.Outcome.{number_of, refusal, cleared, work_by}
 use Rattle.rules.specs.Calls.{DoneWithWork, checks_with_work}
 use Rattle.rules.specs.declared.Refusal.{Refusal}
-use Rattle.rules.specs.declared.Outcome.TheVariants.{Listed, Refused}
 use Rattle.rules.specs.declared.Answer.{Answer}
 
 -- the record that the first ten words are
@@ -34,7 +34,7 @@ Gives d a room work = record { answer = a; room = room; work = work } ≡ d
 -- the counts are raised by it; "answer room past the last record" stays; "the first 32,768 words of work room are zero".
 pub record Lists (rs : List Rec) (t tally work room : List ℕ) (a : Answer) (room' work' : List ℕ) : Type 0 where
   pub none_given : refusal (checks_with_work rs t work room) ≡ none
-  pub outcome : a.outcome ≡ Listed (length rs)
+  pub outcome : a.outcome ≡ Ok (length rs)
   pub counts : a.tally ≡ raise_all rs tally
   pub records : records_in (length rs) room' ≡ rs
   pub past : drop (width * length rs) room' ≡ drop (width * length rs) room
@@ -45,7 +45,7 @@ pub record Lists (rs : List Rec) (t tally work room : List ℕ) (a : Answer) (ro
 -- zero", and the work room is as 01 says.
 pub record Refuses (rs : List Rec) (t : List ℕ) (why : Refusal) (work room : List ℕ) (a : Answer) (room' work' : List ℕ) : Type 0 where
   pub given : refusal (checks_with_work rs t work room) ≡ some why
-  pub outcome : a.outcome ≡ Refused why
+  pub outcome : a.outcome ≡ Err why
   pub numbered : (1 ≤ number_of why) × (number_of why ≤ 11)
   pub no_counts : a.tally ≡ no_tally
   pub no_warning : room' ≡ room

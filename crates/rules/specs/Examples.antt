@@ -2,10 +2,10 @@
 -- 01's 47 bytes, both reasons of 02, §11, whole floats of every size (02, §2), both versions (02, §9), releases of a
 -- host (02, §13), nodes that share span and name (02, §4), and each limit at its number and one past it.
 -- Assumes nothing.
+use Rattle.std.specs.Prelude.{Ok, Err}
 use Rattle.std.specs.Prelude.{ℕ, zero, suc, Bool, true, ◌&&◌, List, [], ◌∷◌, ◌++◌, map, eqb, length, replicate}
 use Rattle.tree.specs.Judge.{judged, number_of, place_of}
-use Rattle.tree.specs.declared.Judged.{Judged}
-use Rattle.tree.specs.declared.Judged.TheVariants.{Valid, Refused}
+use Rattle.tree.specs.Judge.{Judged}
 use Rattle.tree.specs.Written.{u16, node_bytes, value_of, joined, headed, file_of, file}
 use Rattle.rules.specs.Known.{Row, in_either_mode}
 
@@ -785,8 +785,8 @@ borders =
     ∷ []
 
 abbrev pub says : Judged → ℕ → ℕ → Bool
-says (Valid f) n p = eqb n 0 && eqb p 0
-says (Refused why) n p = eqb n (number_of why) && eqb p (place_of why)
+says (Ok f) n p = eqb n 0 && eqb p 0
+says (Err why) n p = eqb n (number_of why) && eqb p (place_of why)
 
 abbrev pub keep_to : List Border → Bool
 keep_to [] = true

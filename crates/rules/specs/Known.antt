@@ -1,13 +1,13 @@
 -- 01, "Known lists": the starred examples, each a tree file with the list of the joined call in both modes. Assumes nothing.
 -- "Globals aren't given."
+use Rattle.std.specs.Prelude.{Ok, Err}
 use Rattle.std.specs.Prelude.{ℕ, Bool, true, false, ◌&&◌, List, [], ◌∷◌}
 use Rattle.tree.specs.declared.Mode.{Mode}
 use Rattle.tree.specs.declared.Mode.TheVariants.{Ordinary, Strict}
 use Rattle.tree.specs.Bytes.{same_bytes}
 use Rattle.tree.specs.Written.{node_bytes, value_of, file_of, file}
 use Rattle.tree.specs.Judge.{judged}
-use Rattle.tree.specs.declared.Judged.{Judged}
-use Rattle.tree.specs.declared.Judged.TheVariants.{Valid, Refused}
+use Rattle.tree.specs.Judge.{Judged}
 use Rattle.rules.specs.Record.{all_words}
 use Rattle.rules.specs.Joined.{lint_list}
 
@@ -225,8 +225,8 @@ rows =
     ∷ []
 
 abbrev pub is_valid : Judged → Bool
-is_valid (Valid f) = true
-is_valid (Refused why) = false
+is_valid (Ok f) = true
+is_valid (Err why) = false
 
 abbrev pub lists : Mode → List ℕ → List ℕ → Bool
 lists mode t ns = same_bytes (all_words (lint_list mode t)) ns

@@ -1,4 +1,5 @@
 -- Demand 3 in the letter's words. Assumes nothing.
+use Rattle.std.specs.Prelude.{Ok}
 use Rattle.std.specs.Prelude.{ℕ, ◌≡◌, Bool, ◌⊎◌, T}
 use mathlib.Core.List.{List, Memᴰ}
 use Rattle.std.proofs.Math.Option.{some}
@@ -6,7 +7,6 @@ use Rattle.tree.specs.Forest.{Head, Forest, tree_of}
 use Rattle.tree.specs.Table.{table_of, spells}
 use Rattle.tree.specs.Judge.{judged}
 use Rattle.tree.specs.declared.Facts.{Facts}
-use Rattle.tree.specs.declared.Judged.TheVariants.{Valid}
 use Rattle.rules.specs.Record.{Rec, named_at}
 use Rattle.rules.specs.Order.{Cmd, bare, def_body, fail_name}
 use Rattle.rules.specs.Names.{names_list}
@@ -46,4 +46,4 @@ Demand3Of t =
 -- The demand whole: "Take a valid tree in which no two nodes that hold a name share span and name and every break or continue
 -- stands in a loop of its own body."
 abbrev pub TheDemand : Type 0
-TheDemand = (t : List ℕ) (f : Facts) → judged t ≡ Valid f → Premises (tree_of t) → Demand3Of t
+TheDemand = (t : List ℕ) (f : Facts) → judged t ≡ Ok f → Premises (tree_of t) → Demand3Of t

@@ -1,15 +1,18 @@
 -- 01, "Numbers handed back": what a public call answers, and how it leaves the words that it was lent. Assumes nothing.
+use Rattle.std.specs.Prelude.{Result, Ok, Err}
 use Rattle.std.specs.Prelude.{ℕ, ◌*◌, Bool, true, false, ◌&&◌, List, [], ◌∷◌, ◌++◌, ltb, length, drop, replicate}
 use Rattle.std.proofs.Math.Option.{Option, none, some}
 use Rattle.tree.specs.Judge as tree
-use Rattle.tree.specs.declared.Judged.{Judged}
-use Rattle.tree.specs.declared.Judged.TheVariants.{Valid, Refused as Unfit}
+use Rattle.tree.specs.Judge.{Judged}
 use Rattle.rules.specs.Record.{Rec, width, all_words, or_else}
 use Rattle.rules.specs.Joined.{no_tally, raise_all}
 use Rattle.rules.specs.declared.Refusal.{Refusal}
 use Rattle.rules.specs.declared.Refusal.TheVariants.{Tree, WorkRoom, AnswerRoom, OtherRoom}
-use Rattle.rules.specs.declared.Outcome.TheVariants.{Listed, Refused}
 use Rattle.rules.specs.declared.Answer.{Answer}
+
+-- what a call comes to: so many records, or why it is refused
+abbrev pub Outcome : Type 0
+Outcome = Result ℕ Refusal
 
 -- 01's number and place of each refusal; 11's place is "records needed", 12's what the other room needs (02, §1)
 abbrev pub number_of : Refusal → ℕ
@@ -44,8 +47,8 @@ refuse_if false why = none
 
 -- "Given exactly when"
 abbrev pub gives : Check → Option Refusal
-gives (the_file (Unfit why)) = some (Tree why)
-gives (the_file (Valid f)) = none
+gives (the_file (Err why)) = some (Tree why)
+gives (the_file (Ok f)) = none
 gives (work_room lent) = refuse_if (ltb lent work_words) WorkRoom
 gives (answer_room n lent) = refuse_if (ltb lent (width * n)) (AnswerRoom n)
 gives (other_room n lent) = refuse_if (ltb lent n) (OtherRoom n)
@@ -72,8 +75,8 @@ in_turn (c ∷ (d ∷ cs)) = ltb (turn c) (turn d) && in_turn (d ∷ cs)
 
 -- "its tally is all zero" on a refusal; else how many records the list has, and the counts with each record's code raised
 unfoldable pub answer_by : Option Refusal → List Rec → List ℕ → Answer
-answer_by (some why) rs tally = record { outcome = Refused why; tally = no_tally }
-answer_by none rs tally = record { outcome = Listed (length rs); tally = raise_all rs tally }
+answer_by (some why) rs tally = record { outcome = Err why; tally = no_tally }
+answer_by none rs tally = record { outcome = Ok (length rs); tally = raise_all rs tally }
 
 -- "A refusal writes no answer"; "answer room past the last record" stays
 unfoldable pub room_by : Option Refusal → List Rec → List ℕ → List ℕ

@@ -1,10 +1,10 @@
 -- 02, §13: what a release of the host that adds globals changes of a list, and of what a call leaves. Assumes nothing.
+use Rattle.std.specs.Prelude.{Ok}
 use Rattle.std.specs.Prelude.{ℕ, zero, suc, ◌≤◌, ◌≡◌, Bool, not, ◌&&◌, List, eqb, get_or}
 use Rattle.tree.specs.Bytes.{global_count}
 use Rattle.tree.specs.Table.{is_global}
 use Rattle.tree.specs.Releases.{SameScript, Given}
 use Rattle.tree.specs.Judge.{facts_of, judged}
-use Rattle.tree.specs.declared.Judged.TheVariants.{Valid}
 use Rattle.tree.specs.declared.Mode.{Mode}
 use Rattle.rules.specs.Record.{Rec, keep}
 use Rattle.rules.specs.Joined.{lint_list}
@@ -37,7 +37,7 @@ Without5 first second = first ≡ keep (λ r. not (eqb r.code 5)) second
 -- "The case without globals given stands outside": two valid files of one script, the first without, of which it is not so
 pub record Outside (t u : List ℕ) : Type 0 where
   pub script : SameScript t u
-  pub valid : (judged t ≡ Valid (facts_of t)) × (judged u ≡ Valid (facts_of u))
+  pub valid : (judged t ≡ Ok (facts_of t)) × (judged u ≡ Ok (facts_of u))
   pub not_given : global_count t ≡ 65535
   pub second_given : Given u
   pub unquieted : (mode : Mode) → QuietedBy u (lint_list mode t) (lint_list mode u) → ⊥

@@ -4,6 +4,7 @@
 ghost use Rattle.std.specs.Prelude.{◌≡◌};
 ghost use Rattle.rules.specs.Incompatible.{allowance, free};
 ghost use Rattle.rules.specs.Outcome.{number_of, place_of};
+ghost use Rattle.rules.specs.declared.Refusal.TheVariants.{Tree};
 
 // The words of a record; the counts of a tally, and the last code; the words of work room that names needs.
 pub const WIDTH: usize = 10;
@@ -14,8 +15,30 @@ pub const LAST_CODE: u32 = CODES as u32;
 
 pub const WORK_WORDS: usize = 32768;
 
+// The codes of warnings: names 1 to 6, flow 7 to 13, incompatible 14 and 15, dubious 16 and 17.
+#[derive(Clone, Copy, Debug, PartialEq, Eq)]
+pub enum Code {
+    UnusedLoad = 1,
+    UnusedAssign = 2,
+    UnusedArgument = 3,
+    UsingUnassigned = 4,
+    UsingUndefined = 5,
+    UsingMaybeUndefined = 6,
+    MissingReturnExpression = 7,
+    MissingReturn = 8,
+    Unreachable = 9,
+    RedundantReturn = 10,
+    RedundantContinue = 11,
+    MisplacedLoad = 12,
+    NoEffect = 13,
+    IncompatibleTypeCheck = 14,
+    DuplicateTopLevelAssign = 15,
+    DuplicateKey = 16,
+    IdentAsStatement = 17,
+}
+
 // How often x = x of a loaded name is free.
-#[derive(Clone, Copy)]
+#[derive(Clone, Copy, Debug, PartialEq, Eq)]
 pub enum Allowance {
     Once,
     Always,
@@ -45,7 +68,7 @@ impl Allowance {
 
 // Why a call is refused: the tree, the work room, the answer room with the records that it needs, or another lent room with what it needs.
 // Specs' number_of and place_of give 01's numbers.
-#[derive(Clone, Copy)]
+#[derive(Clone, Copy, Debug, PartialEq, Eq)]
 pub enum Refusal {
     Tree(tree::Refusal),
     WorkRoom,
@@ -79,15 +102,17 @@ impl Refusal {
     }
 }
 
-#[derive(Clone, Copy)]
-pub enum Outcome {
-    Listed(usize),
-    Refused(Refusal),
+impl From<tree::Refusal> for Refusal {
+    ghost from_gives = { λ why r. r ≡ Tree why };
+
+    fn from(why: tree::Refusal) -> Self {
+        Refusal::Tree(why)
+    }
 }
 
-// No enum holds an array, so the tally stands beside the outcome.
+// How many records are listed, or why none is; and of a refusal too a tally, all zero.
 #[derive(Clone, Copy)]
 pub struct Answer {
-    pub outcome: Outcome,
+    pub outcome: Result<usize, Refusal>,
     pub tally: [usize; CODES],
 }

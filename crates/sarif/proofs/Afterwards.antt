@@ -1,5 +1,6 @@
 -- What a call answers and leaves, read of its promise. In each: t, the file's bytes; work, room and output, what was lent, before the
 -- call; a, its answer; work', room' and output', the same afterwards, as the call promises them. Assumes nothing.
+use Rattle.std.specs.Prelude.{Ok, Err}
 use Prim.Native.Nat.{ℕ, ◌+◌, ◌*◌, ◌≤◌, ◌<◌}
 use native.Mathlib.Omega.{arith}
 use mathlib.Core.Path.{◌≡◌, refl, ap, ◌∙◌}
@@ -11,8 +12,7 @@ use lib.Seq.{take-append_seam, drop-append_seam}
 use Rattle.tree.specs.Judge.{judged}
 use Rattle.tree.specs.declared.Facts.{Facts}
 use Rattle.tree.specs.declared.Refusal.{Refusal as Unfitness}
-use Rattle.tree.specs.declared.Judged.{Judged}
-use Rattle.tree.specs.declared.Judged.TheVariants.{Valid, Refused as Unfit}
+use Rattle.tree.specs.Judge.{Judged}
 use Rattle.tree.specs.declared.Mode.{Mode}
 use Rattle.rules.specs.Record.{Rec, width, all_words, Each}
 use Rattle.rules.specs.Joined.{lint_list, no_tally, tally_of}
@@ -31,7 +31,6 @@ use Rattle.sarif_log.specs.Reader.{read, found}
 use Rattle.sarif.specs.Calls.{Done, answer_by, output_by, sarif_of, sarif_call}
 use Rattle.sarif.specs.Afterwards.{Gives, given, Logs, Refuses, LoggedOrRefused, logged, refused}
 use Rattle.sarif.specs.declared.Sizes.{Sizes}
-use Rattle.sarif.specs.declared.Outcome.TheVariants.{Logged, Refused}
 use Rattle.sarif.specs.declared.Answer.{Answer}
 use Rattle.sarif_log.proofs.ReadBack.{read_back}
 use Rattle.sarif_log.proofs.Size.{file_log_size}
@@ -45,7 +44,7 @@ module _ (rs : List Rec) (t work room output : List ℕ) (a : Answer) (work' roo
       → Refuses rs t why work room output a work' room' output'
   unfolding sarif_of answer_by room_by output_by
   refuses why n e =
-      let d : Gives (record { answer = record { outcome = Refused why; tally = no_tally }; work = work_by (some why) work; room = room; output = output })
+      let d : Gives (record { answer = record { outcome = Err why; tally = no_tally }; work = work_by (some why) work; room = room; output = output })
       a work' room' output' = gives ∙ rw e in
       record {
         is_given = e;
@@ -63,7 +62,7 @@ module _ (rs : List Rec) (t work room output : List ℕ) (a : Answer) (work' roo
   logs l h e =
       let s = log t rs in
       let d : Gives (record {
-        answer = record { outcome = Logged (record { records = length rs; bytes = length s }); tally = tally_of rs };
+        answer = record { outcome = Ok (record { records = length rs; bytes = length s }); tally = tally_of rs };
         work = cleared work;
         room = filled rs room;
         output = s ++ drop (length s) output;
@@ -88,9 +87,9 @@ module _ (rs : List Rec) (t work room output : List ℕ) (a : Answer) (work' roo
     unfit_end : (why : Unfitness) → Refuses rs t (Tree why) work room output a work' room' output' → End
     work_end : Refuses rs t WorkRoom work room output a work' room' output' → End
     room_end : Refuses rs t (AnswerRoom (length rs)) work room output a work' room' output' → End
-    output_end : (f : Facts) → judged t ≡ Valid f → width * length rs ≤ length room → length output < length (log t rs)
+    output_end : (f : Facts) → judged t ≡ Ok f → width * length rs ≤ length room → length output < length (log t rs)
         → Refuses rs t (OtherRoom (length (log t rs))) work room output a work' room' output' → End
-    log_end : (f : Facts) → judged t ≡ Valid f → Logs rs t work room output a work' room' output' → End
+    log_end : (f : Facts) → judged t ≡ Ok f → Logs rs t work room output a work' room' output' → End
 
   end : End
   end =
@@ -100,16 +99,16 @@ module _ (rs : List Rec) (t work room output : List ℕ) (a : Answer) (work' roo
       go : (j : Judged) → judged t ≡ j → (length work < work_words) ⊎ (work_words ≤ length work)
           → (length room < width * length rs) ⊎ (width * length rs ≤ length room)
           → (length output < length (log t rs)) ⊎ (length (log t rs) ≤ length output) → End
-      go (Unfit why) e w r o = unfit_end why (refuses (Tree why) (let n = tree_numbered why in (n.0, omega (arith, n.1))) (unfit _ e))
-      go (Valid f) e (inl w) r o = work_end (refuses WorkRoom (omega arith, omega arith) (fit _ e ∙ work_short _ (length work) w))
-      go (Valid f) e (inr w) (inl r) o =
+      go (Err why) e w r o = unfit_end why (refuses (Tree why) (let n = tree_numbered why in (n.0, omega (arith, n.1))) (unfit _ e))
+      go (Ok f) e (inl w) r o = work_end (refuses WorkRoom (omega arith, omega arith) (fit _ e ∙ work_short _ (length work) w))
+      go (Ok f) e (inr w) (inl r) o =
           room_end (refuses (AnswerRoom (length rs)) (omega arith, omega arith)
           (fit _ e ∙ (work_enough _ (length work) w ∙ room_short _ (length rs) (length room) r)))
-      go (Valid f) e (inr w) (inr r) (inl o) =
+      go (Ok f) e (inr w) (inr r) (inl o) =
           output_end f e r o (refuses (OtherRoom (length (log t rs))) (omega arith, omega arith)
           (fit _ e ∙ (work_enough _ (length work) w ∙ (room_enough _ (length rs) (length room) r
           ∙ other_short _ (length (log t rs)) (length output) o))))
-      go (Valid f) e (inr w) (inr r) (inr o) =
+      go (Ok f) e (inr w) (inr r) (inr o) =
           log_end f e (logs r o (fit _ e ∙ (work_enough _ (length work) w ∙ (room_enough _ (length rs) (length room) r
           ∙ (other_enough _ (length (log t rs)) (length output) o ∙ all_passed)))))
 
@@ -125,10 +124,10 @@ module _ (rs : List Rec) (t work room output : List ℕ) (a : Answer) (work' roo
       go (log_end f e l) = logged l
 
   -- a log is made of a valid file
-  pub valid_where_logged : (n : Sizes) → a.outcome ≡ Logged n → (f : Facts) × (judged t ≡ Valid f)
+  pub valid_where_logged : (n : Sizes) → a.outcome ≡ Ok n → (f : Facts) × (judged t ≡ Ok f)
   valid_where_logged n i = go end
     where
-      go : End → (f : Facts) × (judged t ≡ Valid f)
+      go : End → (f : Facts) × (judged t ≡ Ok f)
       go (unfit_end why l) = let z : ◌≡◌ {A = ℕ} 0 1 = cc (l.outcome, i) in absurd (omega arith)
       go (work_end l) = let z : ◌≡◌ {A = ℕ} 0 1 = cc (l.outcome, i) in absurd (omega arith)
       go (room_end l) = let z : ◌≡◌ {A = ℕ} 0 1 = cc (l.outcome, i) in absurd (omega arith)
@@ -136,11 +135,11 @@ module _ (rs : List Rec) (t work room output : List ℕ) (a : Answer) (work' roo
       go (log_end f e l) = (f, e)
 
   -- 12 is given only where the list has room and the log has none
-  short_of : (n : ℕ) → a.outcome ≡ Refused (OtherRoom n)
-      → ((f : Facts) × (judged t ≡ Valid f)) × (width * length rs ≤ length room) × (length output < length (log t rs))
+  short_of : (n : ℕ) → a.outcome ≡ Err (OtherRoom n)
+      → ((f : Facts) × (judged t ≡ Ok f)) × (width * length rs ≤ length room) × (length output < length (log t rs))
   short_of n i = go end
     where
-      go : End → ((f : Facts) × (judged t ≡ Valid f)) × (width * length rs ≤ length room) × (length output < length (log t rs))
+      go : End → ((f : Facts) × (judged t ≡ Ok f)) × (width * length rs ≤ length room) × (length output < length (log t rs))
       go (unfit_end why l) = let z : ◌≡◌ {A = ℕ} 0 1 = cc (l.outcome, i) in absurd (omega arith)
       go (work_end l) = let z : ◌≡◌ {A = ℕ} 0 1 = cc (l.outcome, i) in absurd (omega arith)
       go (room_end l) = let z : ◌≡◌ {A = ℕ} 0 1 = cc (l.outcome, i) in absurd (omega arith)
@@ -168,7 +167,7 @@ module _ (mode : Mode) (t work room output : List ℕ) (a : Answer) (work' room'
   logged_or_refused = logs_or_refuses (lint_list mode t) t work room output a work' room' output' gives
 
   -- "Reading the log back .. gives the same codes and first spans in order": of the bytes that the call leaves
-  pub sarif_read_back : (n : Sizes) → a.outcome ≡ Logged n → read (take n.bytes output') ≡ map found (lint_list mode t)
+  pub sarif_read_back : (n : Sizes) → a.outcome ≡ Ok n → read (take n.bytes output') ≡ map found (lint_list mode t)
   sarif_read_back n i = go logged_or_refused
     where
       rs : List Rec
@@ -182,7 +181,7 @@ module _ (mode : Mode) (t work room output : List ℕ) (a : Answer) (work' room'
       go (refused why l) = let z : ◌≡◌ {A = ℕ} 0 1 = cc (l.outcome, i) in absurd (omega arith)
 
   -- "Every output is a JSON text by RFC 8259's grammar", so in UTF-8: of the bytes that the call leaves
-  pub sarif_json : (n : Sizes) → a.outcome ≡ Logged n → Is Name.JSONText (take n.bytes output')
+  pub sarif_json : (n : Sizes) → a.outcome ≡ Ok n → Is Name.JSONText (take n.bytes output')
   sarif_json n i = go logged_or_refused
     where
       rs : List Rec
@@ -192,7 +191,7 @@ module _ (mode : Mode) (t work room output : List ℕ) (a : Answer) (work' room'
       go (logged l) = let m : n.bytes ≡ length (log t rs) = cc (l.outcome, i) in rw (m, l.written) (log_json t rs)
       go (refused why l) = let z : ◌≡◌ {A = ℕ} 0 1 = cc (l.outcome, i) in absurd (omega arith)
 
-  pub sarif_utf8 : (n : Sizes) → a.outcome ≡ Logged n → Utf8 (take n.bytes output')
+  pub sarif_utf8 : (n : Sizes) → a.outcome ≡ Ok n → Utf8 (take n.bytes output')
   sarif_utf8 n i = json_utf8 (sarif_json n i)
 
   -- "two outcomes that satisfy it are proved equal"
@@ -203,7 +202,7 @@ module _ (mode : Mode) (t work room output : List ℕ) (a : Answer) (work' room'
 
   -- with room for k records, 1,617 + 2,222 k bytes are never too few: 4,552,273 for 2,048 records
   pub output_enough : (k : ℕ) → length room < width * (k + 1) → 1617 + 2222 * k ≤ length output → Each (λ w. w < 4294967296) (all_words (lint_list mode t))
-      → (n : ℕ) → a.outcome ≡ Refused (OtherRoom n) → ⊥
+      → (n : ℕ) → a.outcome ≡ Err (OtherRoom n) → ⊥
   output_enough k h l u n i =
       let d = short_of (lint_list mode t) t work room output a work' room' output' gives n i in
       omega (arith, file_log_size t d.0.0 d.0.1 mode u, d.1, d.2)

@@ -1,4 +1,5 @@
 -- 02, §13, of what two calls leave beside their logs: list and counts. Assumes nothing.
+use Rattle.std.specs.Prelude.{Ok, Err}
 use Prim.Native.Nat.{ℕ}
 use native.Mathlib.Omega.{arith}
 use mathlib.Core.Path.{◌≡◌, sym, ap, ◌∙◌}
@@ -14,21 +15,20 @@ use Rattle.lint.proofs.Releases.{quieted_list}
 use Rattle.sarif.specs.Calls.{sarif_call}
 use Rattle.sarif.specs.Afterwards.{Gives, LoggedOrRefused, logged, refused}
 use Rattle.sarif.specs.declared.Sizes.{Sizes}
-use Rattle.sarif.specs.declared.Outcome.{Outcome}
-use Rattle.sarif.specs.declared.Outcome.TheVariants.{Logged, Refused}
+use Rattle.sarif.specs.Calls.{Outcome}
 use Rattle.sarif.specs.declared.Answer.{Answer}
 use Rattle.sarif.proofs.Afterwards.{logs_or_refuses, valid_where_logged}
 
 -- how many records an outcome says that there are
 abbrev records_of : Outcome → ℕ
-records_of (Logged n) = n.records
-records_of (Refused why) = 0
+records_of (Ok n) = n.records
+records_of (Err why) = 0
 
 module _ (t u : List ℕ) (k : MoreKnown t u) (mode : Mode)
     (work room output : List ℕ) (a : Answer) (work' room' output' : List ℕ) (gives : Gives (sarif_call mode t work room output) a work' room' output')
     (work₂ room₂ output₂ : List ℕ) (b : Answer) (work₂' room₂' output₂' : List ℕ) (gives₂ : Gives (sarif_call mode u work₂ room₂ output₂) b work₂' room₂' output₂') where
   -- where both have their logs
-  pub sarif_quieted : (n m : Sizes) → a.outcome ≡ Logged n → b.outcome ≡ Logged m
+  pub sarif_quieted : (n m : Sizes) → a.outcome ≡ Ok n → b.outcome ≡ Ok m
       → QuietedCall u n.records m.records room' room₂' a.tally b.tally
   sarif_quieted n m i j =
       go (logs_or_refuses (lint_list mode t) t work room output a work' room' output' gives)

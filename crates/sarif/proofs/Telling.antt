@@ -1,4 +1,5 @@
 -- What each return of the call shows. Assumes nothing.
+use Rattle.std.specs.Prelude.{Ok, Err}
 use Prim.Native.Nat.{ℕ, ◌+◌, ◌*◌, ◌/◌, ◌≤◌, ◌<◌}
 use native.Mathlib.Omega.{arith}
 use native.Mathlib.Nat.{le-div_iff_mul-le, div-lt_iff_lt-mul}
@@ -10,8 +11,7 @@ use lib.ListN.{length, take, drop}
 use Rattle.tree.specs.Judge.{judged}
 use Rattle.tree.specs.declared.Facts.{Facts}
 use Rattle.tree.specs.declared.Mode.{Mode}
-use Rattle.tree.specs.declared.Judged.{Judged}
-use Rattle.tree.specs.declared.Judged.TheVariants.{Valid, Refused as Unfit}
+use Rattle.tree.specs.Judge.{Judged}
 use Rattle.rules.specs.Record.{Rec, width, all_words}
 use Rattle.rules.specs.Joined.{lint_list, no_tally}
 use Rattle.rules.specs.Outcome.{answer_room, other_room, work_words, refusal, room_by, work_by, cleared}
@@ -21,7 +21,6 @@ use Rattle.rules.specs.Afterwards.{records_in}
 use Rattle.rules.specs.declared.Answer.{Answer as lint_answer}
 use Rattle.rules.specs.declared.Refusal.{Refusal}
 use Rattle.rules.specs.declared.Refusal.TheVariants.{Tree, WorkRoom, AnswerRoom, OtherRoom}
-use Rattle.rules.specs.declared.Outcome.TheVariants.{Listed as lint_listed, Refused as lint_refused}
 use Rattle.rules.proofs.Words.{length_words}
 use Rattle.rules.proofs.Whole.{file_lint_few}
 use Rattle.rules.proofs.Answered.{short_or_not, unfit, fit, work_short, work_enough, room_short, room_enough, other_short, other_enough, all_passed, refused as lint_refused_as, listed, filled, work_unfit, work_lacking, work_listed}
@@ -34,8 +33,7 @@ use Rattle.page.proofs.Pages.{writes_length, written, counted}
 use Rattle.sarif_log.specs.Log.{sarif_log, log}
 use Rattle.sarif.specs.Calls.{checks, answer_by, output_by, Done, sarif_of, sarif_call}
 use Rattle.sarif.specs.Telling.{Listed, why_of, Tells}
-use Rattle.sarif.specs.declared.Outcome.{Outcome}
-use Rattle.sarif.specs.declared.Outcome.TheVariants.{Logged, Refused}
+use Rattle.sarif.specs.Calls.{Outcome}
 use Rattle.sarif.specs.declared.Answer.{Answer}
 use Rattle.sarif_log.proofs.Valued.{take_front}
 use Rattle.sarif_log.proofs.Listed.{listed_small}
@@ -53,7 +51,7 @@ module _ (t list : List ℕ) (n : ℕ) (tally : List ℕ) (h : Listed t list n t
   long = length_records n list
 
   -- 11
-  pub short_room : (a : Answer) → length room / width < n → a.outcome ≡ Refused (AnswerRoom n) → a.tally ≡ no_tally
+  pub short_room : (a : Answer) → length room / width < n → a.outcome ≡ Err (AnswerRoom n) → a.tally ≡ no_tally
       → Tells rs t room output a room output
   unfolding answer_by room_by output_by
   short_room a l p q =
@@ -90,7 +88,7 @@ module _ (t list : List ℕ) (n : ℕ) (tally : List ℕ) (h : Listed t list n t
     -- 12
     pub short_output : (a : Answer) (e : List ℕ) (needed : ℕ)
         → Wrote [] 0 e needed (5000 + 2402 * n) (λ rest. text (sarif_log t tally rs) (0x0A ∷ rest)) → length (e ++ output) < needed
-        → a.outcome ≡ Refused (OtherRoom needed) → a.tally ≡ no_tally → Tells rs t room output a room (e ++ output)
+        → a.outcome ≡ Err (OtherRoom needed) → a.tally ≡ no_tally → Tells rs t room output a room (e ++ output)
     unfolding answer_by room_by output_by
     short_output a e needed w g p q =
         let k = bytes_needed [] e needed w in
@@ -98,7 +96,7 @@ module _ (t list : List ℕ) (n : ℕ) (tally : List ℕ) (h : Listed t list n t
         let z : why_of rs t room output ≡ some (OtherRoom (length (log t rs)))
         = enough ∙ other_short _ (length (log t rs)) (length output) (omega arith) in
         record {
-          answer = rw z (answer_is a (p ∙ ap (λ (x : ℕ). Refused (OtherRoom x)) k) q);
+          answer = rw z (answer_is a (p ∙ ap (λ (x : ℕ). Err (OtherRoom x)) k) q);
           room_after = rw z refl;
           output_after = rw z (no_front e output (same_room [] e needed w));
         }
@@ -107,7 +105,7 @@ module _ (t list : List ℕ) (n : ℕ) (tally : List ℕ) (h : Listed t list n t
     pub all_told : (a : Answer) (e room' output' : List ℕ) (needed m : ℕ)
         → Wrote [] 0 e needed (5000 + 2402 * n) (λ rest. text (sarif_log t tally rs) (0x0A ∷ rest)) → needed ≤ length (e ++ output)
         → Wrote (e ++ output) 0 output' m (5000 + 2402 * n) (λ rest. text (sarif_log t tally rs) (0x0A ∷ rest))
-        → room' ≡ take (width * n) list ++ drop (width * n) room → a.outcome ≡ Logged (record { records = n; bytes = needed }) → a.tally ≡ tally
+        → room' ≡ take (width * n) list ++ drop (width * n) room → a.outcome ≡ Ok (record { records = n; bytes = needed }) → a.tally ≡ tally
         → Tells rs t room output a room' output'
     unfolding answer_by room_by output_by
     all_told a e room' output' needed m w g x c p q =
@@ -118,7 +116,7 @@ module _ (t list : List ℕ) (n : ℕ) (tally : List ℕ) (h : Listed t list n t
         let z : why_of rs t room output ≡ none = enough ∙ (other_enough _ (length (log t rs)) (length output) (omega arith) ∙ all_passed) in
         record {
           answer = rw z
-              (answer_is a (p ∙ ap₂ (λ (x y : ℕ). Logged (record { records = x; bytes = y })) (sym long) k) (q ∙ h.counts));
+              (answer_is a (p ∙ ap₂ (λ (x y : ℕ). Ok (record { records = x; bytes = y })) (sym long) k) (q ∙ h.counts));
           room_after = rw z (c ∙ ap (λ (x : List ℕ). x ++ drop (width * n) room) h.stands ∙ ap (λ (x : ℕ). all_words rs ++ drop (width * x) room) (sym long));
           output_after = rw z (whole_log output output' m v (omega arith));
         }
@@ -144,11 +142,11 @@ module _ (mode : Mode) (t work list : List ℕ) (ample : length list ≡ width *
   outcome_is : {b : lint_answer} {o w : List ℕ} → lint_call mode t work list ≡ record { answer = b; room = o; work = w } → a.outcome ≡ b.outcome
   outcome_is d = ap (λ (x : DoneWithWork). x.answer.outcome) (gives ∙ d)
 
-  module _ (n : ℕ) (i : a.outcome ≡ lint_listed n) where
+  module _ (n : ℕ) (i : a.outcome ≡ Ok n) where
     got : records_in n list' ≡ whole
     got = demands.lint_records mode t work list a list' work' gives n i
 
-    valid : (f : Facts) × (judged t ≡ Valid f)
+    valid : (f : Facts) × (judged t ≡ Ok f)
     valid = valid_where_listed whole t work list no_tally a list' work' gives n i
 
     few : length whole ≤ 10240
@@ -206,8 +204,8 @@ module _ (mode : Mode) (t work list : List ℕ) (ample : length list ≡ width *
           rw no_earlier (λ i. record { answer = d.answer i; work = w i; room = d.room_after i; output = d.output_after i })
 
   -- ... and where there is none
-  pub called_refused : (why : Refusal) → a.outcome ≡ lint_refused why → (room output : List ℕ) (b : Answer)
-      → b.outcome ≡ Refused why → b.tally ≡ no_tally
+  pub called_refused : (why : Refusal) → a.outcome ≡ Err why → (room output : List ℕ) (b : Answer)
+      → b.outcome ≡ Err why → b.tally ≡ no_tally
       → ◌≡◌ {A = Done} (record { answer = b; work = work'; room = room; output = output }) (sarif_call mode t work room output)
   unfolding sarif_of answer_by room_by output_by work_by
   called_refused why i room output b p q = go (judged t) refl (short_or_not (length work) work_words)
@@ -220,13 +218,13 @@ module _ (mode : Mode) (t work list : List ℕ) (ample : length list ≡ width *
           let o = outcome_is d in
           let s : why ≡ other = cc (o, i) in
           let v : work' ≡ work_by (some other) work = ap (λ (x : DoneWithWork). x.work) (gives ∙ d) ∙ w in
-          rw (e, v, answer_is b (p ∙ ap Refused s) q)
+          rw (e, v, answer_is b (p ∙ ap Err s) q)
 
       go : (j : Judged) → judged t ≡ j → (length work < work_words) ⊎ (work_words ≤ length work)
           → ◌≡◌ {A = Done} (record { answer = b; work = work'; room = room; output = output }) (sarif_call mode t work room output)
-      go (Unfit w) e h = same (Tree w) (work_unfit whole t work list no_tally e) (unfit _ e) refl
-      go (Valid f) e (inl h) = same WorkRoom (work_lacking whole t work list no_tally e h) (fit _ e ∙ work_short _ (length work) h) refl
-      go (Valid f) e (inr h) =
+      go (Err w) e h = same (Tree w) (work_unfit whole t work list no_tally e) (unfit _ e) refl
+      go (Ok f) e (inl h) = same WorkRoom (work_lacking whole t work list no_tally e h) (fit _ e ∙ work_short _ (length work) h) refl
+      go (Ok f) e (inr h) =
           let few : length whole ≤ 10240 = file_lint_few t f e mode in
           let o = outcome_is (work_listed whole t work list no_tally e h (omega (arith, few, ample))) in
           let z : ◌≡◌ {A = ℕ} 0 1 = cc (o, i) in absurd (omega arith)

@@ -1,4 +1,5 @@
 -- What a call leaves, as who reads the lent words and bytes afterwards finds it. Assumes nothing.
+use Rattle.std.specs.Prelude.{Ok, Err}
 use Rattle.std.specs.Prelude.{ℕ, ◌*◌, ◌≤◌, ◌≡◌, List, length, take, drop}
 use Rattle.std.proofs.Math.Option.{Option, none, some}
 use Rattle.rules.specs.Record.{Rec, width}
@@ -8,7 +9,6 @@ use Rattle.rules.specs.Afterwards.{records_in}
 use Rattle.sarif_log.specs.Log.{log}
 use Rattle.rules.specs.declared.Refusal.{Refusal}
 use Rattle.sarif.specs.Calls.{Done, checks}
-use Rattle.sarif.specs.declared.Outcome.TheVariants.{Logged, Refused}
 use Rattle.sarif.specs.declared.Answer.{Answer}
 
 -- an answer, with the work room, the answer room and the output room afterwards, as a call's promise has them
@@ -23,7 +23,7 @@ given rs t work room output = refusal (checks rs t work room output)
 -- list stands in the answer room, whose words past the last record stay; "the first 32,768 words of work room are zero".
 pub record Logs (rs : List Rec) (t work room output : List ℕ) (a : Answer) (work' room' output' : List ℕ) : Type 0 where
   pub none_given : given rs t work room output ≡ none
-  pub outcome : a.outcome ≡ Logged (record { records = length rs; bytes = length (log t rs) })
+  pub outcome : a.outcome ≡ Ok (record { records = length rs; bytes = length (log t rs) })
   pub counts : a.tally ≡ tally_of rs
   pub written : take (length (log t rs)) output' ≡ log t rs
   pub past : drop (length (log t rs)) output' ≡ drop (length (log t rs)) output
@@ -36,7 +36,7 @@ pub record Logs (rs : List Rec) (t work room output : List ℕ) (a : Answer) (wo
 -- One numbered refusal: "A refusal writes no answer; its tally is all zero", "output unchanged", and the work room is as 01 says.
 pub record Refuses (rs : List Rec) (t : List ℕ) (why : Refusal) (work room output : List ℕ) (a : Answer) (work' room' output' : List ℕ) : Type 0 where
   pub is_given : given rs t work room output ≡ some why
-  pub outcome : a.outcome ≡ Refused why
+  pub outcome : a.outcome ≡ Err why
   pub numbered : (1 ≤ number_of why) × (number_of why ≤ 12)
   pub no_counts : a.tally ≡ no_tally
   pub no_warning : room' ≡ room

@@ -1,4 +1,5 @@
 -- 02, §1: what a call of sarif answers, and how it leaves the words and bytes that it was lent. Assumes nothing.
+use Rattle.std.specs.Prelude.{Ok, Err}
 use Rattle.std.specs.Prelude.{ℕ, List, [], ◌∷◌, ◌++◌, length, drop}
 use Rattle.std.proofs.Math.Option.{Option, none, some}
 use Rattle.tree.specs.Judge.{judged}
@@ -8,7 +9,6 @@ use Rattle.rules.specs.Joined.{lint_list, no_tally, tally_of}
 use Rattle.rules.specs.Outcome.{Check, the_file, work_room, answer_room, other_room, refusal, room_by, work_by}
 use Rattle.rules.specs.declared.Refusal.{Refusal}
 use Rattle.sarif_log.specs.Log.{log}
-use Rattle.sarif.specs.declared.Outcome.TheVariants.{Logged, Refused}
 use Rattle.sarif.specs.declared.Answer.{Answer}
 
 -- "12 output room short, after 11, place is the bytes needed": the checks of a call that gives the list rs of the file t
@@ -22,8 +22,8 @@ checks rs t work room output =
 
 -- a refusal's tally is all zero
 unfoldable pub answer_by : Option Refusal → List Rec → ℕ → Answer
-answer_by (some why) rs n = record { outcome = Refused why; tally = no_tally }
-answer_by none rs n = record { outcome = Logged (record { records = length rs; bytes = n }); tally = tally_of rs }
+answer_by (some why) rs n = record { outcome = Err why; tally = no_tally }
+answer_by none rs n = record { outcome = Ok (record { records = length rs; bytes = n }); tally = tally_of rs }
 
 -- "output unchanged" by a refusal; the bytes past the log stay
 unfoldable pub output_by : Option Refusal → List ℕ → List ℕ → List ℕ

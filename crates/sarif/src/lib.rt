@@ -34,20 +34,20 @@ pub struct Answer {
 }
 
 fn refused(why: Refusal) -> Answer
-    ensures { (result.outcome ≡ Outcome.Refused why) × (result.tally ≡ no_tally) }
+    ensures { (result.outcome ≡ Err why) × (result.tally ≡ no_tally) }
 {
     let zero = [0; CODES];
     Answer {
-        outcome: Outcome::Refused(why),
+        outcome: Err(why),
         tally: zero,
     }
 }
 
 fn logged(records: usize, bytes: usize, tally: [usize; CODES]) -> Answer
-    ensures { (result.outcome ≡ Outcome.Logged (record { records = records; bytes = bytes })) × (result.tally ≡ tally) }
+    ensures { (result.outcome ≡ Ok (record { records = records; bytes = bytes })) × (result.tally ≡ tally) }
 {
     Answer {
-        outcome: Outcome::Logged(Sizes { records, bytes }),
+        outcome: Ok(Sizes { records, bytes }),
         tally,
     }
 }
@@ -104,7 +104,7 @@ pub fn sarif(
     let o = a.outcome;
     let tally = a.tally;
     match o {
-        Linted::Listed(n) => tell(t, &list, n, tally, answer, output),
-        Linted::Refused(why) => refused(why),
+        Ok(n) => tell(t, &list, n, tally, answer, output),
+        Err(why) => refused(why),
     }
 }

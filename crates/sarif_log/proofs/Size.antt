@@ -1,4 +1,5 @@
 -- How many bytes a log of so many records can have. Assumes nothing.
+use Rattle.std.specs.Prelude.{Ok}
 use Prim.Native.Nat.{ℕ, zero, suc, ◌+◌, ◌-◌, ◌*◌, ◌≤◌, ◌<◌}
 use Prim.Native.String.{String, [] as end, ◌∷◌ as ◌then◌}
 use native.Mathlib.Omega.{arith}
@@ -15,7 +16,6 @@ use Rattle.tree.specs.Judge.{judged}
 use Rattle.tree.specs.Values.{Value, sense, form_as, formed}
 use Rattle.tree.specs.Table.{table_of, at}
 use Rattle.tree.specs.declared.Facts.{Facts}
-use Rattle.tree.specs.declared.Judged.TheVariants.{Valid}
 use Rattle.tree.specs.declared.Mode.{Mode}
 use Rattle.tree.proofs.TableLaws.{at_past}
 use Rattle.tree.proofs.ValidTable.{value_formed}
@@ -265,7 +265,7 @@ each_bounded t short (r ∷ rs) f u = (
 )
 
 -- "Length at most 255"; a number beyond the table stands for no bytes
-short_values : (t : List ℕ) (f : Facts) → judged t ≡ Valid f → (v : ℕ) → length (at (table_of t) v).bytes ≤ 255
+short_values : (t : List ℕ) (f : Facts) → judged t ≡ Ok f → (v : ℕ) → length (at (table_of t) v).bytes ≤ 255
 unfolding formed
 short_values t f e v = go (ltb v (value_count t)) refl
   where
@@ -277,7 +277,7 @@ short_values t f e v = go (ltb v (value_count t)) refl
     go false p = rw (at_past t v (ltb-false v (value_count t) p)) (omega arith)
 
 -- THE LOG OF A VALID FILE whose list stands in words of 32 bits
-pub file_log_size : (t : List ℕ) (f : Facts) → judged t ≡ Valid f → (mode : Mode) → Each (λ w. w < 4294967296) (all_words (lint_list mode t))
+pub file_log_size : (t : List ℕ) (f : Facts) → judged t ≡ Ok f → (mode : Mode) → Each (λ w. w < 4294967296) (all_words (lint_list mode t))
     → length (log t (lint_list mode t)) ≤ 1617 + 2222 * length (lint_list mode t)
 file_log_size t f e mode u =
     log_size t (lint_list mode t) (each_bounded t (short_values t f e) (lint_list mode t) (file_fit t f e mode) u)

@@ -1,4 +1,5 @@
 -- The values of a file as its log has them: where they stand, and what a valid file's are like. Assumes nothing.
+use Rattle.std.specs.Prelude.{Ok}
 use Prim.Native.Nat.{ℕ, zero, suc, ◌+◌, ◌-◌, ◌*◌, ◌≤◌, ◌<◌}
 use native.Mathlib.Omega.{arith}
 use native.Mathlib.Numerals.{add-one}
@@ -15,7 +16,6 @@ use Rattle.tree.specs.Values.{Value, value_from, offset, formed, form_as, sense}
 use Rattle.tree.specs.Table.{table_of, at}
 use Rattle.tree.specs.Judge.{judged}
 use Rattle.tree.specs.declared.Facts.{Facts}
-use Rattle.tree.specs.declared.Judged.TheVariants.{Valid}
 use Rattle.tree.proofs.Link.{length_from}
 use Rattle.tree.proofs.Whole.{sound}
 use Rattle.tree.proofs.TableLaws.{length_table, at_table}
@@ -45,7 +45,7 @@ bytes_part (suc k) t o h =
     ap (λ (l : List ℕ). take (suc k) l) (drop-cons t o 0 (omega arith))
     ∙ ap (λ (l : List ℕ). get_or t o 0 ∷ l) (rw e (bytes_part k t (suc o) (omega arith)))
 
-module _ (t : List ℕ) (f : Facts) (v : judged t ≡ Valid f) where
+module _ (t : List ℕ) (f : Facts) (v : judged t ≡ Ok f) where
   value_short : (i : ℕ) → i < value_count t → u16_at t (offset t (node_count t) i + 1) ≤ 255
   unfolding formed
   value_short i h =

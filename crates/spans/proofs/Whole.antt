@@ -1,4 +1,5 @@
 -- Every record of a valid file's list makes sense, and its numbers lead to its nodes. Assumes nothing.
+use Rattle.std.specs.Prelude.{Ok}
 use Prim.Native.Nat.{ℕ, ◌≤◌}
 use native.Mathlib.Omega.{arith}
 use mathlib.Core.Path.{◌≡◌, refl, sym, ap, subst}
@@ -13,7 +14,6 @@ use Rattle.tree.specs.Judge.{judged}
 use Rattle.tree.specs.Keys.{like}
 use Rattle.tree.specs.Table.{table_of, spells, a_string, at}
 use Rattle.tree.specs.declared.Facts.{Facts}
-use Rattle.tree.specs.declared.Judged.TheVariants.{Valid}
 use Rattle.tree.specs.declared.Mode.{Mode}
 use Rattle.tree.proofs.Whole.{sound}
 use Rattle.rules.specs.Record.{Rec, spot_span, Each}
@@ -142,17 +142,17 @@ module _ (t : List ℕ) where
 -- ---- the joined list of a valid file
 
 -- EVERY RECORD makes sense.
-pub file_fit : (t : List ℕ) (f : Facts) → judged t ≡ Valid f → (mode : Mode) → Each Fit (lint_list mode t)
+pub file_fit : (t : List ℕ) (f : Facts) → judged t ≡ Ok f → (mode : Mode) → Each Fit (lint_list mode t)
 file_fit t f v mode =
     each_more (Made Straight) Fit fit_made (lint_list mode t) (file_made Straight t (tree_straight t f (sound t f v)) mode)
 
 -- THE NUMBERS of every record are those of nodes of the file that have its first and second span.
-pub file_placed : (t : List ℕ) (f : Facts) → judged t ≡ Valid f → (mode : Mode) → Each (Placed t) (lint_list mode t)
+pub file_placed : (t : List ℕ) (f : Facts) → judged t ≡ Ok f → (mode : Mode) → Each (Placed t) (lint_list mode t)
 file_placed t f v mode =
     each_more (Made (Sits t)) (Placed t) (placed_made t) (lint_list mode t) (file_made (Sits t) t (tree_sits t f (sound t f v)) mode)
 
 -- AFTER NAMES no record has a code of names.
-pub file_late : (t : List ℕ) (f : Facts) → judged t ≡ Valid f → (mode : Mode)
+pub file_late : (t : List ℕ) (f : Facts) → judged t ≡ Ok f → (mode : Mode)
     → Each (λ r. 7 ≤ r.code) (flow_list t ++ (incompatible_list t ++ dubious_list mode t))
 file_late t f v mode =
     each_more (Late Straight) (λ r. 7 ≤ r.code) late_code (flow_list t ++ (incompatible_list t ++ dubious_list mode t))

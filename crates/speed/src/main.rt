@@ -13,8 +13,8 @@ const ROOM: usize = WIDTH * 2048;
 fn count(a: Answer) -> usize {
     let o = a.outcome;
     match o {
-        Outcome::Listed(n) => n,
-        Outcome::Refused(_) => 0,
+        Ok(n) => n,
+        Err(_) => 0,
     }
 }
 

@@ -1,4 +1,5 @@
 -- What a program hands to its write call. Assumes nothing.
+use Rattle.std.specs.Prelude.{Ok}
 use Prim.Native.Nat.{ℕ, ◌+◌, ◌*◌, ◌≤◌}
 use native.Mathlib.Omega.{arith}
 use mathlib.Core.Path.{◌≡◌, sym, ap, ap₂, ◌∙◌}
@@ -7,7 +8,6 @@ use mathlib.Core.List.{List, [], ◌∷◌, ◌++◌, append_assoc, append-nil}
 use lib.ListN.{length, take}
 use Rattle.tree.specs.Judge.{judged}
 use Rattle.tree.specs.declared.Facts.{Facts}
-use Rattle.tree.specs.declared.Judged.TheVariants.{Valid}
 use Rattle.tree.specs.declared.Mode.{Mode}
 use Rattle.rules.specs.Record.{width}
 use Rattle.rules.specs.Joined.{lint_list}
@@ -63,7 +63,7 @@ module _ (asked : Bool) (mode : Mode) (t work room out : List ℕ) (r : ℕ) (ou
         ∙ ap (λ (x : List ℕ). x ++ line) (sym (text_lengths asked mode t work work' room room' w o))
 
 -- "It prints each record's .. numbers, then total and the count", of the list that the rules give
-pub text_lists : (mode : Mode) (t work room : List ℕ) (f : Facts) → judged t ≡ Valid f → work_words ≤ length work
+pub text_lists : (mode : Mode) (t work room : List ℕ) (f : Facts) → judged t ≡ Ok f → work_words ≤ length work
     → width * length (lint_list mode t) ≤ length room → text_of false mode t work room ≡ listing (lint_list mode t)
 unfolding text_of told counts
 text_lists mode t work room f v w h =

@@ -130,10 +130,10 @@ pub fn text(
     let o = a.outcome;
     let counts = a.tally;
     match o {
-        Outcome::Listed(n) => {
+        Ok(n) => {
             let at = listed(out, answer, n);
             tally(out, at, asked, counts)
         }
-        Outcome::Refused(why) => refused(out, why),
+        Err(why) => refused(out, why),
     }
 }

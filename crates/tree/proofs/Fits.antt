@@ -1,4 +1,5 @@
 -- The tree of a valid file is valid, as many nodes as the file says and no deeper than 48. Assumes nothing.
+use Rattle.std.specs.Prelude.{Ok}
 use Prim.Native.Nat.{ℕ, ◌+◌, ◌≤◌, ◌<◌}
 use native.Mathlib.Omega.{arith}
 use native.Mathlib.Decide.{dec_lt}
@@ -18,7 +19,6 @@ use Rattle.tree.specs.code.Sound.{Sound}
 use Rattle.tree.specs.code.Find.{Row}
 use Rattle.tree.specs.Judge.{judged}
 use Rattle.tree.specs.declared.Facts.{Facts}
-use Rattle.tree.specs.declared.Judged.TheVariants.{Valid}
 use Rattle.tree.proofs.Search.{not_so}
 use Rattle.tree.proofs.Names.{and_left, and_right}
 use Rattle.tree.proofs.Above.{depth_zero}
@@ -78,7 +78,7 @@ root_same : {t : List ℕ} {f : Facts} → Sound t f → root_fits (tree_of t) �
 unfolding root_fits node_head root_ok
 root_same {t} s = rw (tree_node s) (and_right (eqb (size_at t 0) (node_count t)) _ (good_root s))
 
-pub tree_valid : (t : List ℕ) (f : Facts) → judged t ≡ Valid f → T (valid (tree_of t))
+pub tree_valid : (t : List ℕ) (f : Facts) → judged t ≡ Ok f → T (valid (tree_of t))
 unfolding valid
 tree_valid t f e = let s = sound t f e in rw (root_same s, tree_fits s) tt
 
@@ -128,7 +128,7 @@ valid_seven t w some v i h = seven (eqb i 0) (fits_good w (valid_fits (forest_of
     seven true e = rw (good, e)
     seven false e = rw e
 
-pub tree_count : (t : List ℕ) (f : Facts) → judged t ≡ Valid f → count (tree_of t) ≡ f.nodes
+pub tree_count : (t : List ℕ) (f : Facts) → judged t ≡ Ok f → count (tree_of t) ≡ f.nodes
 unfolding tree_of
 tree_count t f e = let s = sound t f e in let c = count_of (whole_part t f s) in let n = s.nodes in omega arith
 
@@ -157,7 +157,7 @@ levels {t} {f} s part = induct (λ i e. (p : ℕ) → p < node_count t → Row t
         let y = b p l (row_next w l row h) q in
         rw (forest_node part lt) (omega arith)
 
-pub tree_height : (t : List ℕ) (f : Facts) → judged t ≡ Valid f → height (tree_of t) ≤ 48
+pub tree_height : (t : List ℕ) (f : Facts) → judged t ≡ Ok f → height (tree_of t) ≤ 48
 unfolding height
 tree_height t f e =
     let s = sound t f e in

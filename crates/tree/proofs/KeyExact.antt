@@ -1,4 +1,5 @@
 -- 02, §2: integers and floats as strict keys, by exact value. Assumes nothing.
+use Rattle.std.specs.Prelude.{Ok}
 use Prim.Native.Nat.{ℕ, ◌*◌, ◌^◌, ◌≤◌, ◌<◌}
 use native.Mathlib.Omega.{arith}
 use mathlib.Core.Path.{◌≡◌, refl, sym, ap, ap₂, subst, ◌∙◌}
@@ -14,7 +15,6 @@ use Rattle.tree.specs.Keys.{grains, finite, whole, like, alike, same_key, reason
 use Rattle.tree.specs.Judge.{judged}
 use Rattle.tree.specs.Table.{table_of, at}
 use Rattle.tree.specs.declared.Facts.{Facts}
-use Rattle.tree.specs.declared.Judged.TheVariants.{Valid}
 use Rattle.tree.specs.declared.Likeness.{Likeness}
 use Rattle.tree.specs.declared.Likeness.TheVariants.{Different, SameForm, SameNumber}
 use Rattle.tree.specs.declared.Mode.{Mode}
@@ -63,7 +63,7 @@ other_none κs a s f n p = none-ne-some n (f.0 ∙ grains_whole a.0 n p.0 p.1)
 
 -- ---- of a file that is judged valid: value a an integer, value b a float
 
-module _ (t : List ℕ) (f : Facts) (valid : judged t ≡ Valid f) (bytes : (k : ℕ) → get_or t k 0 < 256) (a b : ℕ)
+module _ (t : List ℕ) (f : Facts) (valid : judged t ≡ Ok f) (bytes : (k : ℕ) → get_or t k 0 < 256) (a b : ℕ)
     (few-a : a < value_count t) (few-b : b < value_count t) (kind_a : (at (table_of t) a).kind ≡ 3) (kind-b : (at (table_of t) b).kind ≡ 4) where
   left : Value
   left = at (table_of t) a

@@ -1,4 +1,5 @@
 -- In a valid file the search by halving finds the integer that a float counts as. Assumes nothing.
+use Rattle.std.specs.Prelude.{Ok}
 use Prim.Native.Nat.{ℕ, ◌≤◌, ◌<◌}
 use native.Mathlib.Omega.{arith}
 use native.Mathlib.Decide.{dec_lt}
@@ -13,7 +14,6 @@ use Rattle.tree.specs.Values.{Value, sense, form_as, magnitude, no_zero_first, f
 use Rattle.tree.specs.Judge.{judged}
 use Rattle.tree.specs.Table.{table_of, at}
 use Rattle.tree.specs.declared.Facts.{Facts}
-use Rattle.tree.specs.declared.Judged.TheVariants.{Valid}
 use Rattle.tree.specs.declared.keys.Side.TheVariants.{Below, Equal, Above}
 use Rattle.tree.specs.code.Numbers.{integer_is, below, placed, short_of, sought}
 use Rattle.tree.proofs.Search.{clash}
@@ -96,7 +96,7 @@ never_both n v (other_kind h) (as_large e k) = omega arith
 never_both n v (smaller e h) (later_kind k) = omega arith
 never_both n v (smaller e h) (as_large d k) = omega arith
 
-module _ (t : List ℕ) (f : Facts) (valid : judged t ≡ Valid f) (bytes : (k : ℕ) → get_or t k 0 < 256) where
+module _ (t : List ℕ) (f : Facts) (valid : judged t ≡ Ok f) (bytes : (k : ℕ) → get_or t k 0 < 256) where
   vs : List Value
   vs = table_of t
 

@@ -1,5 +1,6 @@
 -- In a valid file the key test is decided by value numbers and the numbers that stand for keys; two forms of one number are an integer
 -- and a float. Assumes nothing.
+use Rattle.std.specs.Prelude.{Ok}
 use Prim.Native.Nat.{ℕ, ◌≤◌, ◌<◌}
 use native.Mathlib.Omega.{arith}
 use native.Mathlib.Decide.{ℕ_discrete}
@@ -16,7 +17,6 @@ use Rattle.tree.specs.Values.{Value, sense, a_name, a_text, an_integer, a_float,
 use Rattle.tree.specs.Judge.{judged}
 use Rattle.tree.specs.declared.Mode.{Mode}
 use Rattle.tree.specs.declared.Facts.{Facts}
-use Rattle.tree.specs.declared.Judged.TheVariants.{Valid}
 use Rattle.tree.specs.Keys.{whole, counted, number_as, number, formed_alike, same_numbers, likeness, like, alike, same_key, reason}
 use Rattle.tree.specs.Table.{table_of, at}
 use Rattle.tree.specs.code.Numbers.{integer_is, is_integer, if_so, float_number, sought, lead, key_number, KeyNumbers, like_by}
@@ -75,7 +75,7 @@ float_counts m v n e = go (eqb v.kind 4) refl (eqb (length v.bytes) 8) e
 no_float : (m : Mode) (v : Value) → v.kind ≡ 3 → float_number m v ≡ none
 no_float m v k = rw k
 
-module _ (t : List ℕ) (f : Facts) (valid : judged t ≡ Valid f) (bytes : (k : ℕ) → get_or t k 0 < 256) (m : Mode) where
+module _ (t : List ℕ) (f : Facts) (valid : judged t ≡ Ok f) (bytes : (k : ℕ) → get_or t k 0 < 256) (m : Mode) where
   vs : List Value
   vs = table_of t
 

@@ -42,3 +42,4 @@ pub mod Longest
 pub mod Agree
 pub mod Versions
 pub mod Releases
+pub mod FirstChild

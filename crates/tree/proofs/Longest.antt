@@ -1,4 +1,5 @@
 -- The longest valid file: what a reader of files has to take in. Assumes nothing.
+use Rattle.std.specs.Prelude.{Ok}
 use Prim.Native.Nat.{ℕ, zero, suc, ◌+◌, ◌*◌, ◌≤◌, ◌<◌}
 use native.Mathlib.Omega.{arith}
 use mathlib.Core.Path.{◌≡◌}
@@ -11,7 +12,6 @@ use Rattle.tree.specs.Values.{formed, offset}
 use Rattle.tree.specs.Judge.{judged}
 use Rattle.tree.specs.code.Stages.{value_no, None5}
 use Rattle.tree.specs.declared.Facts.{Facts}
-use Rattle.tree.specs.declared.Judged.TheVariants.{Valid}
 use Rattle.tree.proofs.Link.{length_from}
 use Rattle.tree.proofs.Names.{and_left, well_formed}
 use Rattle.tree.proofs.Whole.{sound}
@@ -31,10 +31,10 @@ module _ (t : List ℕ) (n nv : ℕ) (none : None5 t n nv) where
   values_short (suc i) h = omega (arith, value_short i h, values_short i (omega arith))
 
 -- 3 and 4: header, nodes, values and globals fill the file, and there are at most so many of each
-pub sections_longest : (t : List ℕ) (f : Facts) → judged t ≡ Valid f → length t ≤ 11 + 16 * 1024 + 512 * (3 + 255) + 2 * 512
+pub sections_longest : (t : List ℕ) (f : Facts) → judged t ≡ Ok f → length t ≤ 11 + 16 * 1024 + 512 * (3 + 255) + 2 * 512
 sections_longest t f e =
     let s = sound t f e in
     omega (arith, values_short t (node_count t) (value_count t) s.none5 (value_count t) (omega arith))
 
-pub file_longest : (t : List ℕ) (f : Facts) → judged t ≡ Valid f → length t ≤ 149515
+pub file_longest : (t : List ℕ) (f : Facts) → judged t ≡ Ok f → length t ≤ 149515
 file_longest t f e = sections_longest t f e

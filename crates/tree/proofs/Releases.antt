@@ -1,4 +1,5 @@
 -- 02, §13: "with the same nodes and values": the tree and the table don't depend on the globals. Assumes nothing.
+use Rattle.std.specs.Prelude.{Ok}
 use Prim.Native.Nat.{ℕ, zero, suc, ◌+◌, ◌-◌, ◌≤◌, ◌<◌}
 use native.Mathlib.Omega.{arith}
 use mathlib.Core.Path.{◌≡◌, refl, sym, ap, ◌∙◌}
@@ -16,7 +17,6 @@ use Rattle.tree.specs.Judge.{judged}
 use Rattle.tree.specs.Releases.{SameScript, Given}
 use Rattle.tree.specs.code.Part.{Part}
 use Rattle.tree.specs.declared.Facts.{Facts}
-use Rattle.tree.specs.declared.Judged.TheVariants.{Valid}
 use Rattle.tree.proofs.ValueLaws.{offset_later}
 use Rattle.tree.proofs.Link.{length_from}
 use Rattle.tree.proofs.Agree as Agree
@@ -91,7 +91,7 @@ module _ (t u : List ℕ) (s : SameScript t u) where
 
   -- ---- the tree, of a valid file
 
-  module _ (f : Facts) (v : judged t ≡ Valid f) where
+  module _ (f : Facts) (v : judged t ≡ Ok f) where
     part : Part t 0 (node_count t)
     part = whole_part t f (sound t f v)
 

@@ -1,4 +1,5 @@
 -- The judgement of each sample, computed. Assumes nothing.
+use Rattle.std.specs.Prelude.{Ok, Err}
 use Prim.Native.Nat.{ℕ}
 use mathlib.Core.Path.{◌≡◌, refl}
 use mathlib.Core.Bool.{Bool, true, ◌&&◌}
@@ -13,12 +14,11 @@ use Rattle.tree.specs.Nodes.{parent_in, parent_of, limit_of, known, wrong_node, 
 use Rattle.tree.specs.Children.{class_of, slot_of, all_stand, many, all_filled, in_pairs, for_first, in_order, kids_fit, root_ok, wrong_children}
 use Rattle.tree.specs.Judge.{checks, facts_of, judged, number_of, place_of}
 use Rattle.tree.specs.code.Samples.{Sample, samples}
-use Rattle.tree.specs.declared.Judged.{Judged}
-use Rattle.tree.specs.declared.Judged.TheVariants.{Valid, Refused}
+use Rattle.tree.specs.Judge.{Judged}
 
 abbrev pub says : Judged → ℕ → ℕ → Bool
-says (Valid f) n p = eqb n 0 && eqb p 0
-says (Refused why) n p = eqb n (number_of why) && eqb p (place_of why)
+says (Ok f) n p = eqb n 0 && eqb p 0
+says (Err why) n p = eqb n (number_of why) && eqb p (place_of why)
 
 abbrev pub agree : List Sample → Bool
 agree [] = true

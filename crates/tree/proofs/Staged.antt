@@ -1,4 +1,5 @@
 -- The judgement, check by check over the table and the forest, is the code's, number by number over the bytes. Assumes nothing.
+use Rattle.std.specs.Prelude.{Ok, Err}
 use Prim.Native.Nat.{ℕ, zero, suc, ◌+◌, ◌*◌, ◌-◌, ◌<◌, ◌≤◌}
 use native.Mathlib.Omega.{arith}
 use native.Mathlib.Decide.{dec_lt}
@@ -18,8 +19,7 @@ use Rattle.tree.specs.code.Stages.{is_name_at, is_literal_at, bad5, bad9, value_
 use Rattle.tree.specs.code.Kids.{bad7}
 use Rattle.tree.specs.declared.Refusal.{Refusal}
 use Rattle.tree.specs.declared.Refusal.TheVariants.{Mark, Version, Counts, Sections, Value, Node, Children, Depth, Global}
-use Rattle.tree.specs.declared.Judged.{Judged}
-use Rattle.tree.specs.declared.Judged.TheVariants.{Valid, Refused}
+use Rattle.tree.specs.Judge.{Judged}
 use Rattle.tree.proofs.TableLaws.{at_table, at_past}
 use Rattle.tree.proofs.Listed.{kids_same}
 
@@ -34,7 +34,7 @@ lowest_same : (n : ℕ) (f g : ℕ → Bool) → ((i : ℕ) → i < n → f i �
 lowest_same n f g h = first_same n 0 f g (λ j a b. h j (omega arith))
 
 -- a check of the whole file, and one of places
-of_file_same : (b : Bool) (why : Refusal) {x y : Judged} → x ≡ y → refuse_at (λ i. why) (lowest 1 (λ i. not b)) 1 x ≡ pick b y (Refused why)
+of_file_same : (b : Bool) (why : Refusal) {x y : Judged} → x ≡ y → refuse_at (λ i. why) (lowest 1 (λ i. not b)) 1 x ≡ pick b y (Err why)
 unfolding first
 of_file_same true why e = e
 of_file_same false why e = refl
@@ -93,4 +93,4 @@ module _ (t : List ℕ) where
       (at_each_same Node (node_count t) _ _ (λ i h. six_same i)
       (at_each_same Children (node_count t) _ _ (λ i h. seven_same i)
       (at_each_same Depth (node_count t) (too_deep t) (too_deep t) (λ i h. refl)
-      (at_each_same Global (listed (global_count t)) _ _ (λ i h. nine_same i) (ap Valid facts_same)))))))))
+      (at_each_same Global (listed (global_count t)) _ _ (λ i h. nine_same i) (ap Ok facts_same)))))))))

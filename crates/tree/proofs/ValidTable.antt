@@ -1,4 +1,5 @@
 -- The table of a valid file: its values are formed and ascend, so no value stands twice. Assumes nothing.
+use Rattle.std.specs.Prelude.{Ok}
 use Prim.Native.Nat.{ℕ, zero, suc, ◌+◌, ◌-◌, ◌≤◌, ◌<◌}
 use native.Mathlib.Omega.{arith}
 use native.Mathlib.Decide.{dec_lt}
@@ -14,7 +15,6 @@ use Rattle.tree.specs.Values.{Value, formed, precedes, offset}
 use Rattle.tree.specs.code.Stages.{value_no, None5}
 use Rattle.tree.specs.Judge.{judged}
 use Rattle.tree.specs.declared.Facts.{Facts}
-use Rattle.tree.specs.declared.Judged.TheVariants.{Valid}
 use Rattle.tree.specs.Table.{table_of, at, spells}
 use Rattle.tree.specs.code.Numbers.{number_named, below_or}
 use Rattle.tree.proofs.Search.{clash, lowest_clear, lowest_hit, lowest_le}
@@ -24,13 +24,13 @@ use Rattle.tree.proofs.TableLaws.{at_table, at_past, below_found, below_none}
 use Rattle.tree.proofs.KeyLaws.{all_bytes, both, formed-alike→eq, precedes_trans, precedes_self}
 
 -- a valid file has at most 512 values, and 5 refuses none
-pub valid_five : (t : List ℕ) (f : Facts) → judged t ≡ Valid f → (value_count t ≤ 512) × None5 t (node_count t) (value_count t)
+pub valid_five : (t : List ℕ) (f : Facts) → judged t ≡ Ok f → (value_count t ≤ 512) × None5 t (node_count t) (value_count t)
 valid_five t f e = let s = sound t f e in (s.few_values, s.none5)
 
 so : {b : Bool} → b ≡ true → T b
 so e = subst T (sym e) tt
 
-module _ (t : List ℕ) (f : Facts) (valid : judged t ≡ Valid f) where
+module _ (t : List ℕ) (f : Facts) (valid : judged t ≡ Ok f) where
   none_refused : None5 t (node_count t) (value_count t)
   none_refused = (valid_five t f valid).1
 

@@ -1,5 +1,6 @@
 -- 02, §9: "Tree version 2 has version 1's layout": of two files that differ in their version alone the tree, the table and the globals are
 -- the same, and so is the judgement, but for the version. Assumes nothing.
+use Rattle.std.specs.Prelude.{Ok, Err}
 use Prim.Native.Nat.{ℕ, zero, suc, ◌+◌, ◌*◌, ◌-◌, ◌≤◌}
 use native.Mathlib.Omega.{arith}
 use mathlib.Core.Path.{◌≡◌, refl, ap, ap₂, fun_ext, ◌∙◌}
@@ -16,8 +17,7 @@ use Rattle.tree.specs.Children.{root_ok, wrong_children}
 use Rattle.tree.specs.Judge.{marked, versioned, Check, checks, checked, facts_of, judged}
 use Rattle.tree.specs.Search.{lowest}
 use Rattle.tree.specs.Versions.{Twins, in_version}
-use Rattle.tree.specs.declared.Judged.{Judged}
-use Rattle.tree.specs.declared.Judged.TheVariants.{Valid, Refused}
+use Rattle.tree.specs.Judge.{Judged}
 use Rattle.tree.proofs.Agree as Agree
 
 module _ (t u : List ℕ) (s : Twins t u) where
@@ -154,13 +154,13 @@ module _ (t u : List ℕ) (s : Twins t u) where
   checks_same e =
       rw (marked_same, e, same_table, globals_agree, nodes, values, globals, s.long, fun_ext node_same, fun_ext children_same, fun_ext deep_same, fun_ext global_wrong_same)
 
-  kept : (cs : List Check) → checked cs (Valid (facts_of u)) ≡ in_version (version_of u) (checked cs (Valid (facts_of t)))
+  kept : (cs : List Check) → checked cs (Ok (facts_of u)) ≡ in_version (version_of u) (checked cs (Ok (facts_of t)))
   unfolding facts_of
   kept [] = rw (same_table, globals_agree, nodes, values, globals)
-  kept (c ∷ cs) = go (ltb (lowest c.places c.wrong) c.places) (checked cs (Valid (facts_of u))) (checked cs (Valid (facts_of t))) (kept cs)
+  kept (c ∷ cs) = go (ltb (lowest c.places c.wrong) c.places) (checked cs (Ok (facts_of u))) (checked cs (Ok (facts_of t))) (kept cs)
     where
       go : (b : Bool) (x y : Judged) → x ≡ in_version (version_of u) y
-          → pick b (Refused (c.why (lowest c.places c.wrong))) x ≡ in_version (version_of u) (pick b (Refused (c.why (lowest c.places c.wrong))) y)
+          → pick b (Err (c.why (lowest c.places c.wrong))) x ≡ in_version (version_of u) (pick b (Err (c.why (lowest c.places c.wrong))) y)
       go true x y e = refl
       go false x y e = e
 

@@ -1,4 +1,5 @@
 -- 01, "Numbers handed back": 1 to 9 in order, each with its lowest place. Assumes nothing.
+use Rattle.std.specs.Prelude.{Result, Ok, Err}
 use Rattle.std.specs.Prelude.{ℕ, ◌+◌, ◌*◌, List, [], ◌∷◌, Bool, ◌&&◌, ◌||◌, not, length, leb, ltb, eqb}
 use Rattle.tree.specs.Bytes.{stands_at, mark, version_of, node_count, value_count, global_count, pick}
 use Rattle.tree.specs.Search.{lowest}
@@ -8,8 +9,6 @@ use Rattle.tree.specs.Children.{wrong_children}
 use Rattle.tree.specs.declared.Facts.{Facts}
 use Rattle.tree.specs.declared.Refusal.{Refusal}
 use Rattle.tree.specs.declared.Refusal.TheVariants.{Mark, Version, Counts, Sections, Value, Node, Children, Depth, Global}
-use Rattle.tree.specs.declared.Judged.{Judged}
-use Rattle.tree.specs.declared.Judged.TheVariants.{Valid, Refused}
 
 -- 01's number and place of each refusal
 abbrev pub number_of : Refusal → ℕ
@@ -44,6 +43,10 @@ versioned t = eqb (version_of t) 1 || eqb (version_of t) 2
 abbrev pub limits : ℕ → ℕ → ℕ → Bool
 limits n nv g = leb 1 n && (leb n 1024 && (leb nv 512 && (leb g 512 || eqb g 65535)))
 
+-- what a file is judged to be: what a valid one says of itself, or why it is refused
+abbrev pub Judged : Type 0
+Judged = Result Facts Refusal
+
 -- a check: why it refuses, how many places it has, and whether a place is wrong
 pub record Check : Type 0 where
   pub why : ℕ → Refusal
@@ -72,7 +75,7 @@ checks t =
 
 -- refused at a place below n; else what the rest says
 abbrev pub refuse_at : (ℕ → Refusal) → ℕ → ℕ → Judged → Judged
-refuse_at why place n rest = pick (ltb place n) (Refused (why place)) rest
+refuse_at why place n rest = pick (ltb place n) (Err (why place)) rest
 
 -- "Checked in that order; within a number the lowest place"
 abbrev pub checked : List Check → Judged → Judged
@@ -89,4 +92,4 @@ facts_of t =
     record { version = version_of t; nodes = node_count t; values = value_count t; names = leading t; globals = global_count t; rest = globals_from t }
 
 unfoldable pub judged : List ℕ → Judged
-judged t = checked (checks t) (Valid (facts_of t))
+judged t = checked (checks t) (Ok (facts_of t))

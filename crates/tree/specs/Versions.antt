@@ -1,7 +1,7 @@
 -- Two files that differ in their version alone, for the theorems on 02, §9. Assumes nothing.
+use Rattle.std.specs.Prelude.{Ok, Err}
 use Rattle.std.specs.Prelude.{ℕ, ◌≤◌, ◌<◌, ◌≡◌, List, length, get_or}
-use Rattle.tree.specs.declared.Judged.{Judged}
-use Rattle.tree.specs.declared.Judged.TheVariants.{Valid, Refused}
+use Rattle.tree.specs.Judge.{Judged}
 
 -- the same bytes but for those of the version, at 3 and 4
 pub record Twins (t u : List ℕ) : Type 0 where
@@ -11,6 +11,6 @@ pub record Twins (t u : List ℕ) : Type 0 where
 
 -- the same judgement, but that a valid file is of version v
 abbrev pub in_version : ℕ → Judged → Judged
-in_version v (Valid f) =
-    Valid (record { version = v; nodes = f.nodes; values = f.values; names = f.names; globals = f.globals; rest = f.rest })
-in_version v (Refused why) = Refused why
+in_version v (Ok f) =
+    Ok (record { version = v; nodes = f.nodes; values = f.values; names = f.names; globals = f.globals; rest = f.rest })
+in_version v (Err why) = Err why

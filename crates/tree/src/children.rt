@@ -2,7 +2,7 @@
 ghost use Rattle.std.specs.Prelude.{◌≡◌, ◌+◌, ◌<◌, ◌≤◌, true};
 ghost use Rattle.tree.specs.Bytes.{size_at};
 ghost use Rattle.tree.specs.Search.{lowest};
-ghost use Rattle.tree.specs.code.Find.{child_of};
+ghost use Rattle.tree.specs.code.Find.{first_child};
 ghost use Rattle.tree.specs.code.Packed.{digit_of, Fills};
 ghost use Rattle.tree.specs.Children.{class_of, in_class, slot_of, root_ok};
 ghost use Rattle.tree.specs.code.Kids.{kids_from, kids_stand, of_role, kids_filled, paired, kids_for_first, kids_in_order, good7, bad7, Sized};
@@ -300,23 +300,20 @@ pub(crate) fn first7(t: &[u8], n: usize, nv: usize) -> usize
     n
 }
 
-// The first of the siblings from node `from` up to `e` that has the role; `e` where there is none.
-pub fn child_of(t: &[u8], role: usize, from: usize, e: usize) -> usize
-    ensures { result ≡ child_of t.now role from e }
+// The first of the siblings from node `from` up to `e` that has the role.
+pub fn child_of(t: &[u8], role: usize, from: usize, e: usize) -> Option<usize>
+    ensures { result ≡ first_child t.now role from e }
 {
     let mut i = from;
     while i < e {
         if role_at(t, i) == role {
-            return i;
+            return Some(i);
         }
         let size = size_at(t, i);
-        if size == 0 {
-            return e;
-        }
-        if e - i <= size {
-            return e;
+        if size == 0 || e - i <= size {
+            return None;
         }
         i += size;
     }
-    e
+    None
 }

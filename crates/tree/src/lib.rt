@@ -19,12 +19,13 @@ pub mod bytes;
 pub mod children;
 mod floats;
 pub mod keys;
+pub mod kinds;
 pub mod lookup;
 mod nodes;
 mod values;
 
 // What a valid file says of itself.
-#[derive(Clone, Copy)]
+#[derive(Clone, Copy, Debug, PartialEq, Eq)]
 pub struct Facts {
     pub version: usize,
     pub nodes: usize,
@@ -35,7 +36,7 @@ pub struct Facts {
 }
 
 // Why a file is refused, with the place where 01 gives one. Specs' number_of and place_of give 01's numbers.
-#[derive(Clone, Copy)]
+#[derive(Clone, Copy, Debug, PartialEq, Eq)]
 pub enum Refusal {
     Mark,
     Version,
@@ -84,22 +85,15 @@ impl Refusal {
     }
 }
 
-// What a file is judged to be.
-#[derive(Clone, Copy)]
-pub enum Judged {
-    Valid(Facts),
-    Refused(Refusal),
-}
-
 // Key equality. Ordinary: whole floats of i32 are integers. Strict: whole floats of every size are.
-#[derive(Clone, Copy)]
+#[derive(Clone, Copy, Debug, PartialEq, Eq)]
 pub enum Mode {
     Ordinary,
     Strict,
 }
 
 // What the key test says of two keys. Specs' reason gives 02's numbers.
-#[derive(Clone, Copy)]
+#[derive(Clone, Copy, Debug, PartialEq, Eq)]
 pub enum Likeness {
     Different,
     SameForm,
@@ -119,12 +113,6 @@ impl Likeness {
     }
 }
 
-fn refused(why: Refusal) -> Judged
-    ensures { result ≡ Judged.Refused why }
-{
-    Judged::Refused(why)
-}
-
 fn listed_of(g: usize) -> usize
     ensures { result ≡ listed g }
 {
@@ -134,7 +122,7 @@ fn listed_of(g: usize) -> usize
     g
 }
 
-fn judge9(t: &[u8], n: usize, nv: usize, g: usize) -> Judged
+fn judge9(t: &[u8], n: usize, nv: usize, g: usize) -> Result<Facts, Refusal>
     requires { (n ≤ 1024) × (nv ≤ 512) × (listed g ≤ 512) × (1 ≤ n) × None5 t.now n nv }
     ensures { result ≡ judged9 t.now n nv g }
 {
@@ -143,9 +131,9 @@ fn judge9(t: &[u8], n: usize, nv: usize, g: usize) -> Judged
     let count = listed_of(g);
     let p = first9(t, n, nv, at, names, count);
     if p < count {
-        return refused(Refusal::Global(p));
+        return Err(Refusal::Global(p));
     }
-    Judged::Valid(Facts {
+    Ok(Facts {
         version: version_of(t),
         nodes: n,
         values: nv,
@@ -155,30 +143,30 @@ fn judge9(t: &[u8], n: usize, nv: usize, g: usize) -> Judged
     })
 }
 
-fn judge8(t: &[u8], n: usize, nv: usize, g: usize) -> Judged
+fn judge8(t: &[u8], n: usize, nv: usize, g: usize) -> Result<Facts, Refusal>
     requires { (n ≤ 1024) × (nv ≤ 512) × (listed g ≤ 512) × (1 ≤ n) × None5 t.now n nv }
     ensures { result ≡ judged8 t.now n nv g }
 {
     let par = parents(t, n);
     let p = first8(t, n, &par);
     if p < n {
-        return refused(Refusal::Depth(p));
+        return Err(Refusal::Depth(p));
     }
     judge9(t, n, nv, g)
 }
 
-fn judge7(t: &[u8], n: usize, nv: usize, g: usize) -> Judged
+fn judge7(t: &[u8], n: usize, nv: usize, g: usize) -> Result<Facts, Refusal>
     requires { (n ≤ 1024) × (nv ≤ 512) × (listed g ≤ 512) × (1 ≤ n) × None5 t.now n nv × None6 t.now n nv }
     ensures { result ≡ judged7 t.now n nv g }
 {
     let p = first7(t, n, nv);
     if p < n {
-        return refused(Refusal::Children(p));
+        return Err(Refusal::Children(p));
     }
     judge8(t, n, nv, g)
 }
 
-fn judge6(t: &[u8], n: usize, nv: usize, g: usize) -> Judged
+fn judge6(t: &[u8], n: usize, nv: usize, g: usize) -> Result<Facts, Refusal>
     requires { (n ≤ 1024) × (nv ≤ 512) × (listed g ≤ 512) × (1 ≤ n) × None5 t.now n nv }
     ensures { result ≡ judged6 t.now n nv g }
 {
@@ -186,30 +174,30 @@ fn judge6(t: &[u8], n: usize, nv: usize, g: usize) -> Judged
     let par = parents(t, n);
     let p = first6(t, n, nv, names, &par);
     if p < n {
-        return refused(Refusal::Node(p));
+        return Err(Refusal::Node(p));
     }
     judge7(t, n, nv, g)
 }
 
-fn judge5(t: &[u8], n: usize, nv: usize, g: usize) -> Judged
+fn judge5(t: &[u8], n: usize, nv: usize, g: usize) -> Result<Facts, Refusal>
     requires { (n ≤ 1024) × (nv ≤ 512) × (listed g ≤ 512) × (1 ≤ n) }
     ensures { result ≡ judged5 t.now n nv g }
 {
     let p = first5(t, n, nv);
     if p < nv {
-        return refused(Refusal::Value(p));
+        return Err(Refusal::Value(p));
     }
     judge6(t, n, nv, g)
 }
 
-fn judge4(t: &[u8], n: usize, nv: usize, g: usize) -> Judged
+fn judge4(t: &[u8], n: usize, nv: usize, g: usize) -> Result<Facts, Refusal>
     requires { (n ≤ 1024) × (nv ≤ 512) × (listed g ≤ 512) × (1 ≤ n) }
     ensures { result ≡ judged4 t.now n nv g }
 {
     if offset_of(t, n, nv) + 2 * listed_of(g) == t.len() {
         return judge5(t, n, nv, g);
     }
-    refused(Refusal::Sections)
+    Err(Refusal::Sections)
 }
 
 fn within(n: usize, nv: usize, g: usize) -> bool
@@ -230,13 +218,13 @@ fn within(n: usize, nv: usize, g: usize) -> bool
     g == 65535
 }
 
-fn judge3(t: &[u8], n: usize, nv: usize, g: usize) -> Judged
+fn judge3(t: &[u8], n: usize, nv: usize, g: usize) -> Result<Facts, Refusal>
     ensures { result ≡ judged3 t.now n nv g }
 {
     if within(n, nv, g) {
         return judge4(t, n, nv, g);
     }
-    refused(Refusal::Counts)
+    Err(Refusal::Counts)
 }
 
 fn has_mark(t: &[u8]) -> bool
@@ -258,14 +246,14 @@ fn has_version(t: &[u8]) -> bool
     version == 2
 }
 
-pub fn judge(t: &[u8]) -> Judged
+pub fn judge(t: &[u8]) -> Result<Facts, Refusal>
     ensures { result ≡ judged t.now }
 {
     if has_mark(t) {
         if has_version(t) {
             return judge3(t, u16_at(t, 5), u16_at(t, 7), u16_at(t, 9));
         }
-        return refused(Refusal::Version);
+        return Err(Refusal::Version);
     }
-    refused(Refusal::Mark)
+    Err(Refusal::Mark)
 }

@@ -1,9 +1,9 @@
+use Rattle.std.specs.Prelude.{Ok}
 use native.Mathlib.Omega.{arith}
 use Prim.Native.Nat.{◌/◌, ◌<◌, ◌≤◌}
 use mathlib.Core.Path.{◌≡◌, sym, ap, ◌∙◌}
 use lib.ListN.{length}
 use Rattle.tree.specs.Judge.{judged}
-use Rattle.tree.specs.declared.Judged.TheVariants.{Valid}
 use Rattle.rules.specs.Record.{width}
 use Rattle.rules.specs.Flow.{flow_list}
 use Rattle.answer.specs.Page.{writes}
@@ -15,7 +15,7 @@ pub returns-then-out-records : goal.returns-then-out-records
 returns-then-out-records c =
     let t = c.args.t.now in
     let o = c.args.out.now in
-    let v : judged t ≡ Valid c.args.f = c.requires in
+    let v : judged t ≡ Ok c.args.f = c.requires in
     let q = no_front c.lint-c.new.out o (omega (arith, c.lint-c.auto.out)) in
     let h : length o / width < c.lint-c.result.count = rw q at c.if-out-records.true in
     let l = list_is t _ v (λ k. omega (arith, c.shared_slice_known-1.given k)) c.number_of-fail.result c.number_of-none.result c.strings-texts.result c.number_of-fail.ensures c.number_of-none.ensures c.strings-texts.ensures in
@@ -26,7 +26,7 @@ pub returns : goal.returns
 returns c =
     let t = c.args.t.now in
     let o = c.args.out.now in
-    let v : judged t ≡ Valid c.args.f = c.requires in
+    let v : judged t ≡ Ok c.args.f = c.requires in
     let q = no_front c.lint-c.new.out o (omega (arith, c.lint-c.auto.out)) in
     let h : c.lint-c.result.count ≤ length o / width = rw q at c.if-out-records.false in
     let l = list_is t _ v (λ k. omega (arith, c.shared_slice_known-1.given k)) c.number_of-fail.result c.number_of-none.result c.strings-texts.result c.number_of-fail.ensures c.number_of-none.ensures c.strings-texts.ensures in

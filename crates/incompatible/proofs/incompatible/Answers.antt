@@ -1,5 +1,5 @@
+use Rattle.std.specs.Prelude.{Err}
 use mathlib.Core.Path.{sym, ap, ◌∙◌}
-use Rattle.rules.specs.declared.Outcome.TheVariants.{Refused}
 use Rattle.rules.specs.Incompatible.{incompatible_list}
 use Rattle.answer.specs.Refuse.{refusal_of}
 use Rattle.answer.proofs.Whole.{unfit_done}
@@ -10,8 +10,8 @@ returns-in_default c =
     let t = c.args.t.now in
     unfit_done t _ (incompatible_list t) c.args.out.now c.args.tally c.refused.result
     (sym c.judge-j.ensures ∙ c.in_default.is)
-    (c.refused.ensures.0 ∙ ap Refused (c.refusal_of.ensures ∙ ap refusal_of c.judge-j.ensures))
+    (c.refused.ensures.0 ∙ ap Err (c.refusal_of.ensures ∙ ap refusal_of c.judge-j.ensures))
     c.refused.ensures.1
 
 pub lint_valid-requires : goal.lint_valid-requires
-lint_valid-requires c = sym c.judge-j.ensures ∙ c.in-Valid.is
+lint_valid-requires c = sym c.judge-j.ensures ∙ c.in-Ok.is

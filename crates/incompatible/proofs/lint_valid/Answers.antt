@@ -1,9 +1,9 @@
+use Rattle.std.specs.Prelude.{Ok}
 use native.Mathlib.Omega.{arith}
 use Prim.Native.Nat.{◌/◌, ◌<◌, ◌≤◌}
 use mathlib.Core.Path.{◌≡◌, sym, ap, ◌∙◌}
 use lib.ListN.{length}
 use Rattle.tree.specs.Judge.{judged}
-use Rattle.tree.specs.declared.Judged.TheVariants.{Valid}
 use Rattle.tree.proofs.Whole.{whole}
 use Rattle.rules.specs.Record.{width}
 use Rattle.rules.specs.Incompatible.{incompatible_list}
@@ -22,7 +22,7 @@ pub returns-then-out-records : goal.returns-then-out-records
 returns-then-out-records c =
     let t = c.args.t.now in
     let o = c.args.out.now in
-    let v : judged t ≡ Valid c.args.f = c.requires in
+    let v : judged t ≡ Ok c.args.f = c.requires in
     let q = no_front c.lint-c.new.out o (omega (arith, c.lint-c.auto.out)) in
     let h : length o / width < c.lint-c.result.count = rw q at c.if-out-records.true in
     let l = rw (← c.of-allowed.ensures) at (list_is t _ v (λ k. omega (arith, c.shared_slice_known-1.given k)) c.types_of-names.result c.types_of-names.ensures) in
@@ -40,7 +40,7 @@ pub returns : goal.returns
 returns c =
     let t = c.args.t.now in
     let o = c.args.out.now in
-    let v : judged t ≡ Valid c.args.f = c.requires in
+    let v : judged t ≡ Ok c.args.f = c.requires in
     let q = no_front c.lint-c.new.out o (omega (arith, c.lint-c.auto.out)) in
     let h : c.lint-c.result.count ≤ length o / width = rw q at c.if-out-records.false in
     let l = rw (← c.of-allowed.ensures) at (list_is t _ v (λ k. omega (arith, c.shared_slice_known-1.given k)) c.types_of-names.result c.types_of-names.ensures) in

@@ -1,9 +1,9 @@
+use Rattle.std.specs.Prelude.{Ok, Err}
 use native.Mathlib.Omega.{arith}
 use Prim.Native.Nat.{ℕ, ◌-◌, ◌/◌}
 use mathlib.Core.Path.{sym, ap, ◌∙◌}
 use lib.ListN.{length}
-use Rattle.rules.specs.declared.Outcome.{Outcome}
-use Rattle.rules.specs.declared.Outcome.TheVariants.{Listed, Refused}
+use Rattle.rules.specs.Outcome.{Outcome}
 use Rattle.rules.specs.Record.{width}
 use Rattle.rules.specs.Names.{names_list}
 use Rattle.rules.specs.Joined.{lint_list, no_tally}
@@ -41,12 +41,12 @@ returns-in_default c =
     c.lint_valid-a.result c.lint_valid-a.new.out c.lint_valid-a.new.work no_tally
     c.lint_valid-a.ensures
     _ c.in_default.is)
-    (c.refused.ensures.0 ∙ ap Refused (c.refusal_with.ensures ∙ ap (refusal_with c.lint_valid-a.result.outcome) c.requires.1))
+    (c.refused.ensures.0 ∙ ap Err (c.refusal_with.ensures ∙ ap (refusal_with c.lint_valid-a.result.outcome) c.requires.1))
     c.refused.ensures.1
 
 pub refusal_with-requires-then-room-rest : goal.refusal_with-requires-then-room-rest
 refusal_with-requires-then-room-rest c =
-    let n = rw c.in-Listed.is at (about_names c.requires.0 (names_list c.args.t.now) (after_names c.args.mode c.args.t.now) c.args.work.now c.args.out.now
+    let n = rw c.in-Ok.is at (about_names c.requires.0 (names_list c.args.t.now) (after_names c.args.mode c.args.t.now) c.args.work.now c.args.out.now
     c.spare-lent.result (c.spare-lent.ensures ∙ ap (λ (r : ℕ). length c.args.out.now / width - r) c.requires.1)
     c.lint_valid-a.result c.lint_valid-a.new.out c.lint_valid-a.new.work no_tally
     c.lint_valid-a.ensures) in
@@ -62,7 +62,7 @@ returns-then-room-rest c =
     c.refused-then-room-rest.result no_tally
     (λ h f. let m = holds c.requires.0 (names_list c.args.t.now) (after_names c.args.mode c.args.t.now) c.args.work.now c.args.out.now
     c.spare-lent.result (c.spare-lent.ensures ∙ ap (λ (r : ℕ). length c.args.out.now / width - r) c.requires.1) f in omega (arith, m, c.if-room-rest.true, c.requires.1))
-    (c.refused-then-room-rest.ensures.0 ∙ ap Refused (c.refusal_with-then-room-rest.ensures ∙ ap (refusal_with (Listed c.in-Listed.n)) c.requires.1 ∙ ap (λ (x : Outcome). refusal_with x (length (after_names c.args.mode c.args.t.now))) (sym c.in-Listed.is)))
+    (c.refused-then-room-rest.ensures.0 ∙ ap Err (c.refusal_with-then-room-rest.ensures ∙ ap (refusal_with (Ok c.in-Ok.n)) c.requires.1 ∙ ap (λ (x : Outcome). refusal_with x (length (after_names c.args.mode c.args.t.now))) (sym c.in-Ok.is)))
     c.refused-then-room-rest.ensures.1
 
 pub overflow_mul-end : goal.overflow_mul-end
@@ -71,7 +71,7 @@ overflow_mul-end c =
     c.spare-lent.result (c.spare-lent.ensures ∙ ap (λ (r : ℕ). length c.args.out.now / width - r) c.requires.1)
     c.lint_valid-a.result c.lint_valid-a.new.out c.lint_valid-a.new.work no_tally
     c.lint_valid-a.ensures
-    _ c.in-Listed.is (rw c.requires.1 at c.if-room-rest.false) in
+    _ c.in-Ok.is (rw c.requires.1 at c.if-room-rest.false) in
     omega (arith, n, few c.requires.0 c.args.mode)
 
 pub offset_bounds-out-end : goal.offset_bounds-out-end
@@ -80,7 +80,7 @@ offset_bounds-out-end c =
     c.spare-lent.result (c.spare-lent.ensures ∙ ap (λ (r : ℕ). length c.args.out.now / width - r) c.requires.1)
     c.lint_valid-a.result c.lint_valid-a.new.out c.lint_valid-a.new.work no_tally
     c.lint_valid-a.ensures
-    _ c.in-Listed.is (rw c.requires.1 at c.if-room-rest.false) in
+    _ c.in-Ok.is (rw c.requires.1 at c.if-room-rest.false) in
     omega (arith, n, few c.requires.0 c.args.mode)
 
 pub slice_bounds-from_flow-count : goal.slice_bounds-from_flow-count
@@ -89,7 +89,7 @@ slice_bounds-from_flow-count c =
     c.spare-lent.result (c.spare-lent.ensures ∙ ap (λ (r : ℕ). length c.args.out.now / width - r) c.requires.1)
     c.lint_valid-a.result c.lint_valid-a.new.out c.lint_valid-a.new.work no_tally
     c.lint_valid-a.ensures
-    _ c.in-Listed.is (rw c.requires.1 at c.if-room-rest.false)
+    _ c.in-Ok.is (rw c.requires.1 at c.if-room-rest.false)
 
 pub slice_bounds-from_flow-start : goal.slice_bounds-from_flow-start
 slice_bounds-from_flow-start c =
@@ -97,7 +97,7 @@ slice_bounds-from_flow-start c =
     c.spare-lent.result (c.spare-lent.ensures ∙ ap (λ (r : ℕ). length c.args.out.now / width - r) c.requires.1)
     c.lint_valid-a.result c.lint_valid-a.new.out c.lint_valid-a.new.work no_tally
     c.lint_valid-a.ensures
-    _ c.in-Listed.is (rw c.requires.1 at c.if-room-rest.false)
+    _ c.in-Ok.is (rw c.requires.1 at c.if-room-rest.false)
 
 pub from_flow-requires : goal.from_flow-requires
 from_flow-requires c =
@@ -105,7 +105,7 @@ from_flow-requires c =
     c.spare-lent.result (c.spare-lent.ensures ∙ ap (λ (r : ℕ). length c.args.out.now / width - r) c.requires.1)
     c.lint_valid-a.result c.lint_valid-a.new.out c.lint_valid-a.new.work no_tally
     c.lint_valid-a.ensures
-    _ c.in-Listed.is (rw c.requires.1 at c.if-room-rest.false)
+    _ c.in-Ok.is (rw c.requires.1 at c.if-room-rest.false)
 
 pub after-requires : goal.after-requires
 after-requires c =
@@ -113,7 +113,7 @@ after-requires c =
     c.spare-lent.result (c.spare-lent.ensures ∙ ap (λ (r : ℕ). length c.args.out.now / width - r) c.requires.1)
     c.lint_valid-a.result c.lint_valid-a.new.out c.lint_valid-a.new.work no_tally
     c.lint_valid-a.ensures
-    _ c.in-Listed.is (rw c.requires.1 at c.if-room-rest.false) in
+    _ c.in-Ok.is (rw c.requires.1 at c.if-room-rest.false) in
     let m = about_list c.requires.0 (after_names _ _) _ _ _ _ c.from_flow.ensures in
     omega (arith, n, m, few c.requires.0 c.args.mode)
 
@@ -124,6 +124,6 @@ returns c =
     c.spare-lent.result (c.spare-lent.ensures ∙ ap (λ (r : ℕ). length c.args.out.now / width - r) c.requires.1)
     c.lint_valid-a.result c.lint_valid-a.new.out c.lint_valid-a.new.work no_tally
     c.lint_valid-a.ensures
-    _ c.in-Listed.is (rw c.requires.1 at c.if-room-rest.false)
+    _ c.in-Ok.is (rw c.requires.1 at c.if-room-rest.false)
     c.from_flow.result c.after.result c.from_flow.new.out
     c.from_flow.ensures c.after.ensures.0 c.after.ensures.1

@@ -1,8 +1,8 @@
 -- By the outcome. Assumes nothing.
 use Rattle.lint_c.proofs.as_listed.Goals as goal
 
-pub returns-in-Logged : goal.returns-in-Logged
-returns-in-Logged c = rw c.in-Logged.is
+pub returns-in-Ok : goal.returns-in-Ok
+returns-in-Ok c = rw c.in-Ok.is
 
-pub returns-in-Refused : goal.returns-in-Refused
-returns-in-Refused c = rw c.in-Refused.is
+pub returns-in-Err : goal.returns-in-Err
+returns-in-Err c = rw c.in-Err.is

@@ -7,14 +7,14 @@ use Rattle.sarif.proofs.sarif.Goals as goal
 pub tell-requires : goal.tell-requires
 tell-requires c =
     let a = c.args in
-    found_all a.mode a.t.now a.work.now (replicate (width * 10240) 0) (length-replicate {A = ℕ} (width * 10240) 0) c.lint-a.result c.lint-a.new.out c.lint-a.new.work c.lint-a.ensures c.in-Listed.n c.in-Listed.is
+    found_all a.mode a.t.now a.work.now (replicate (width * 10240) 0) (length-replicate {A = ℕ} (width * 10240) 0) c.lint-a.result c.lint-a.new.out c.lint-a.new.work c.lint-a.ensures c.in-Ok.n c.in-Ok.is
 
-pub returns-in-Listed : goal.returns-in-Listed
-returns-in-Listed c =
+pub returns-in-Ok : goal.returns-in-Ok
+returns-in-Ok c =
     let a = c.args in
-    called_listed a.mode a.t.now a.work.now (replicate (width * 10240) 0) (length-replicate {A = ℕ} (width * 10240) 0) c.lint-a.result c.lint-a.new.out c.lint-a.new.work c.lint-a.ensures c.in-Listed.n c.in-Listed.is a.answer.now a.output.now c.tell.result c.tell.new.answer c.tell.new.output c.tell.ensures
+    called_listed a.mode a.t.now a.work.now (replicate (width * 10240) 0) (length-replicate {A = ℕ} (width * 10240) 0) c.lint-a.result c.lint-a.new.out c.lint-a.new.work c.lint-a.ensures c.in-Ok.n c.in-Ok.is a.answer.now a.output.now c.tell.result c.tell.new.answer c.tell.new.output c.tell.ensures
 
-pub returns-in-Refused : goal.returns-in-Refused
-returns-in-Refused c =
+pub returns-in-Err : goal.returns-in-Err
+returns-in-Err c =
     let a = c.args in
-    called_refused a.mode a.t.now a.work.now (replicate (width * 10240) 0) (length-replicate {A = ℕ} (width * 10240) 0) c.lint-a.result c.lint-a.new.out c.lint-a.new.work c.lint-a.ensures c.in-Refused.why c.in-Refused.is a.answer.now a.output.now c.refused.result c.refused.ensures.0 c.refused.ensures.1
+    called_refused a.mode a.t.now a.work.now (replicate (width * 10240) 0) (length-replicate {A = ℕ} (width * 10240) 0) c.lint-a.result c.lint-a.new.out c.lint-a.new.work c.lint-a.ensures c.in-Err.why c.in-Err.is a.answer.now a.output.now c.refused.result c.refused.ensures.0 c.refused.ensures.1

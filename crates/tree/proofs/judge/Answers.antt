@@ -2,7 +2,7 @@ use Prim.Native.Nat.{ℕ}
 use mathlib.Core.Path.{◌≡◌, sym, ◌∙◌}
 use mathlib.Core.List.{List}
 use Rattle.tree.specs.Judge.{judged}
-use Rattle.tree.specs.declared.Judged.{Judged}
+use Rattle.tree.specs.Judge.{Judged}
 use Rattle.tree.specs.code.Stages.{staged}
 use Rattle.tree.proofs.Staged.{staged_same}
 use Rattle.tree.proofs.judge.Goals as goal

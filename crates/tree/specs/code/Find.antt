@@ -1,5 +1,5 @@
 -- For the code and its laws: the children of a node by number, and the first of some siblings that has a role. Assumes nothing.
-use Rattle.std.specs.Prelude.{ℕ, zero, suc, ◌+◌, ◌-◌, ◌≤◌, ◌<◌, List, true, false, ltb, eqb}
+use Rattle.std.specs.Prelude.{Option, Some, None, ℕ, zero, suc, ◌+◌, ◌-◌, ◌≤◌, ◌<◌, List, true, false, ltb, eqb}
 use Rattle.tree.specs.Bytes.{role_at, size_at}
 use Rattle.tree.specs.Forest.{Forest, none, node}
 
@@ -15,6 +15,10 @@ child_in (suc k) t r i e =
 -- the first of the siblings from node i up to e that has role r; e where there is none
 unfoldable pub child_of : List ℕ → ℕ → ℕ → ℕ → ℕ
 child_of t r i e = child_in (e - i) t r i e
+
+-- that sibling, where there is one
+abbrev pub first_child : List ℕ → ℕ → ℕ → ℕ → Option ℕ
+first_child t r i e = elim (ltb (child_of t r i e) e) [ true ↦ Some (child_of t r i e) | false ↦ None ]
 
 -- node p's first child of role r; p's end where there is none
 abbrev pub kid_of : List ℕ → ℕ → ℕ → ℕ

@@ -1,5 +1,6 @@
 -- The judgement as the code goes: number by number, each value read where it stands. proofs/Staged shows that `judged` says
 -- the same. Assumes nothing.
+use Rattle.std.specs.Prelude.{Ok, Err}
 use Rattle.std.specs.Prelude.{ℕ, ◌+◌, ◌*◌, ◌-◌, ◌≤◌, ◌<◌, ◌≡◌, List, Bool, ◌&&◌, ◌||◌, not, length, get_or, leb, ltb, eqb}
 use Rattle.tree.specs.Bytes.{version_of, u16_at, kind_at, size_at, begin_at, end_at, value_at, last_at, pick}
 use Rattle.tree.specs.Search.{lowest}
@@ -10,8 +11,7 @@ use Rattle.tree.specs.Judge.{refuse_at, marked, versioned, limits}
 use Rattle.tree.specs.code.Kids.{bad7}
 use Rattle.tree.specs.declared.Facts.{Facts}
 use Rattle.tree.specs.declared.Refusal.TheVariants.{Mark, Version, Counts, Sections, Value as ValueAt, Node, Children, Depth, Global}
-use Rattle.tree.specs.declared.Judged.{Judged}
-use Rattle.tree.specs.declared.Judged.TheVariants.{Valid, Refused}
+use Rattle.tree.specs.Judge.{Judged}
 
 -- value i, in a file of n nodes
 abbrev pub value_no : List ℕ → ℕ → ℕ → Value
@@ -79,7 +79,7 @@ facts_at t n nv g =
     record { version = version_of t; nodes = n; values = nv; names = names_of t n nv; globals = g; rest = offset t n nv }
 
 unfoldable pub judged9 : List ℕ → ℕ → ℕ → ℕ → Judged
-judged9 t n nv g = refuse_at Global (lowest (listed g) (bad9 t n nv)) (listed g) (Valid (facts_at t n nv g))
+judged9 t n nv g = refuse_at Global (lowest (listed g) (bad9 t n nv)) (listed g) (Ok (facts_at t n nv g))
 
 unfoldable pub judged8 : List ℕ → ℕ → ℕ → ℕ → Judged
 judged8 t n nv g = refuse_at Depth (lowest n (too_deep t)) n (judged9 t n nv g)
@@ -94,13 +94,13 @@ unfoldable pub judged5 : List ℕ → ℕ → ℕ → ℕ → Judged
 judged5 t n nv g = refuse_at ValueAt (lowest nv (bad5 t n)) nv (judged6 t n nv g)
 
 unfoldable pub judged4 : List ℕ → ℕ → ℕ → ℕ → Judged
-judged4 t n nv g = pick (eqb (offset t n nv + 2 * listed g) (length t)) (judged5 t n nv g) (Refused Sections)
+judged4 t n nv g = pick (eqb (offset t n nv + 2 * listed g) (length t)) (judged5 t n nv g) (Err Sections)
 
 unfoldable pub judged3 : List ℕ → ℕ → ℕ → ℕ → Judged
-judged3 t n nv g = pick (limits n nv g) (judged4 t n nv g) (Refused Counts)
+judged3 t n nv g = pick (limits n nv g) (judged4 t n nv g) (Err Counts)
 
 unfoldable pub staged : List ℕ → Judged
 staged t =
     pick (marked t)
-    (pick (versioned t) (judged3 t (u16_at t 5) (u16_at t 7) (u16_at t 9)) (Refused Version))
-    (Refused Mark)
+    (pick (versioned t) (judged3 t (u16_at t 5) (u16_at t 7) (u16_at t 9)) (Err Version))
+    (Err Mark)

@@ -8,6 +8,6 @@ logged-requires g c =
     let a = c.args in
     let made = c.lint-a in (
       lists a.choices a.t.now a.work.now a.answer.now c.mode.result c.mode.ensures
-          made.result made.new.out made.new.work made.ensures c.in-Listed.n c.in-Listed.is,
+          made.result made.new.out made.new.work made.ensures c.in-Ok.n c.in-Ok.is,
       omega (arith, c.requires),
     )

@@ -1,7 +1,0 @@
-use Rattle.tree.specs.Forest.{node_head}
-use Rattle.answer.specs.Note.{rec_of, span_of, value_of, node_of}
-use Rattle.answer.proofs.put_plainly.Goals as goal
-
-pub returns : goal.returns
-unfolding node_head rec_of span_of value_of node_of
-returns c = c.put.ensures
