@@ -5,7 +5,9 @@ use native.Mathlib.Nat.{le-div_iff_mul-le}
 use native.Mathlib.Numerals.{add-one}
 use mathlib.Core.Path.{◌≡◌, refl, sym, ap, ◌∙◌}
 use mathlib.Core.List.{List, [], ◌∷◌, ◌++◌, append_assoc}
-use lib.ListN.{length, set, drop, length-append, length-drop}
+use lib.ListN.{length, set, take, drop, length-append, length-drop, take-append-drop}
+use lib.Seq.{length-take-le}
+use borrow.Rule.Slice.PartMut.{put_mid}
 use borrow.Author.Tests.{lt-ltb}
 use Rattle.rules.specs.Record.{Rec, width, words, all_words}
 use Rattle.rules.specs.Joined.{one_more, raise}
@@ -65,3 +67,13 @@ writes_at xs ys n y (r ∷ rs) e h m =
 pub written : (o : List ℕ) (y : List ℕ) (rs : List Rec) → width * length rs ≤ length o → length rs ≤ 18446744073709551615
     → (writes (record { out = o; count = 0; tally = y }) rs).out ≡ all_words rs ++ drop (width * length rs) o
 written o y rs h m = writes_at [] o 0 y rs refl h (omega arith)
+
+-- the words ws in the place of as many, from word a on
+pub laid : (ws o : List ℕ) (a k : ℕ) → k ≡ length ws → a + length ws ≤ length o → lay o a ws ≡ put_mid a k o ws
+laid ws o a k e h =
+    let w : length (take a o) ≡ a = length-take-le a o (omega arith) in
+    let l : length ws ≤ length (drop a o) = rw length-drop (omega arith) in
+    ap (λ (x : List ℕ). lay x a ws) (sym (take-append-drop a o))
+    ∙ lay_right ws (take a o) (drop a o) a 0 (omega (arith, w))
+    ∙ ap (λ (x : List ℕ). take a o ++ x) (lay_front ws (drop a o) l)
+    ∙ ap (λ (n : ℕ). take a o ++ (ws ++ drop n (drop a o))) (sym e)

@@ -47,9 +47,9 @@ abbrev pub rec_from : Words → Rec
 rec_from w =
     record {
       code = w.code;
-      spot = record { begin = w.begin; end = w.end; value = w.value };
-      second = record { begin = w.begin2; end = w.end2 };
-      third = record { begin = w.begin3; end = w.end3 };
+      spot = record { begin = w.first.begin; end = w.first.end; value = w.value };
+      second = span_from w.second;
+      third = span_from w.third;
       number = w.number;
       number2 = w.number2;
     }

@@ -5,7 +5,7 @@
 ghost use Rattle.std.specs.Prelude.{◌≡◌, List, [], ◌∷◌, ◌<◌, ◌≤◌, length, Ok, Err};
 ghost use Rattle.tree.specs.Forest.{number_at, node_head};
 ghost use Rattle.rules.specs.Record.{Rec, plainly};
-ghost use Rattle.rules.specs.Joined.{one_more, raise, no_tally};
+ghost use Rattle.rules.specs.Joined.{raise, no_tally};
 ghost use Rattle.answer.specs.Page.{stored, page, Added};
 ghost use Rattle.answer.specs.Answers.{Answers};
 ghost use Rattle.answer.specs.Note.{span_of, span_from, value_of, node_of, rec_of, rec_from};
@@ -40,47 +40,32 @@ pub struct Sheet<'a> {
     pub tally: [usize; CODES],
 }
 
-#[derive(Clone, Copy)]
-struct Ends {
-    begin: u32,
-    end: u32,
+// Where a span begins and ends.
+#[derive(Clone, Copy, Debug, PartialEq, Eq)]
+pub struct Ends {
+    pub begin: u32,
+    pub end: u32,
 }
 
 // A record's words: its code, its first span and value, its second and third span, its node and that of its second span.
 #[derive(Clone, Copy, Debug, PartialEq, Eq)]
 pub struct Words {
     pub code: u32,
-    pub begin: u32,
-    pub end: u32,
+    pub first: Ends,
     pub value: u32,
-    pub begin2: u32,
-    pub end2: u32,
-    pub begin3: u32,
-    pub end3: u32,
+    pub second: Ends,
+    pub third: Ends,
     pub number: u32,
     pub number2: u32,
-}
-
-fn up(x: usize) -> usize
-    ensures { result ≡ one_more x }
-{
-    if x < 18446744073709551615 {
-        return x + 1;
-    }
-    x
 }
 
 fn raise_at(counts: &mut [usize], code: usize)
     ensures { counts.new ≡ raise code counts.old }
 {
-    if code < 1 {
-        return;
+    if 1 <= code && code <= counts.len() {
+        let k = code - 1;
+        counts[k] = counts[k].saturating_add(1);
     }
-    if counts.len() < code {
-        return;
-    }
-    let k = code - 1;
-    counts[k] = up(counts[k]);
 }
 
 // The tally with the count of one code raised.
@@ -92,22 +77,16 @@ pub fn raised(tally: [usize; CODES], code: u32) -> [usize; CODES]
     counts
 }
 
-fn word(x: usize) -> u32
-    requires { x < 4294967296 }
-    ensures { result ≡ x }
-{
-    x as u32
-}
-
 // Where a place begins and ends; of why two keys are equal, its number and 0.
+#[tactic(auto, unfolding(crate::specs::Note::span_of, tree::specs::Forest::node_spot))]
 fn ends_of(t: &[u8], p: Place) -> Ends
     ensures { span_from result ≡ span_of t.now p }
 {
     match p {
         Place::Nowhere => Ends { begin: 0, end: 0 },
         Place::Node(i) => Ends {
-            begin: word(begin_at(t, i)),
-            end: word(end_at(t, i)),
+            begin: begin_at(t, i) as u32,
+            end: end_at(t, i) as u32,
         },
         Place::Reason(l) => Ends {
             begin: l.reason(),
@@ -116,56 +95,45 @@ fn ends_of(t: &[u8], p: Place) -> Ends
     }
 }
 
+// 65535 stands for no value and for no node (02, §4): a record is words alone.
+#[tactic(auto, unfolding(crate::specs::Note::value_of, tree::specs::Forest::node_spot))]
 fn value_of(t: &[u8], p: Place) -> u32
     ensures { result ≡ value_of t.now p }
 {
     match p {
-        Place::Nowhere => 65535,
-        Place::Node(i) => word(value_at(t, i)),
-        Place::Reason(_) => 65535,
+        Place::Node(i) => value_at(t, i) as u32,
+        Place::Nowhere | Place::Reason(_) => 65535,
     }
 }
 
 fn number_at(i: usize) -> u32
     ensures { result ≡ number_at i }
 {
-    if i < 65535 {
-        return word(i);
-    }
-    65535
+    i.min(65535) as u32
 }
 
 // The number of the node that a span comes from.
+#[tactic(auto, unfolding(crate::specs::Note::node_of))]
 fn number_of(p: Place) -> u32
     ensures { result ≡ node_of p }
 {
     match p {
-        Place::Nowhere => 65535,
         Place::Node(i) => number_at(i),
-        Place::Reason(_) => 65535,
+        Place::Nowhere | Place::Reason(_) => 65535,
     }
 }
 
 fn words_of(t: &[u8], n: Note) -> Words
     ensures { rec_from result ≡ rec_of t.now n }
 {
-    let value = n.value;
-    let second = n.second;
-    let third = n.third;
-    let first = ends_of(t, Place::Node(n.at));
-    let two = ends_of(t, second);
-    let three = ends_of(t, third);
     Words {
         code: n.code,
-        begin: first.begin,
-        end: first.end,
-        value: value_of(t, value),
-        begin2: two.begin,
-        end2: two.end,
-        begin3: three.begin,
-        end3: three.end,
+        first: ends_of(t, Place::Node(n.at)),
+        value: value_of(t, n.value),
+        second: ends_of(t, n.second),
+        third: ends_of(t, n.third),
         number: number_at(n.at),
-        number2: number_of(second),
+        number2: number_of(n.second),
     }
 }
 
@@ -175,16 +143,18 @@ fn emit(out: &mut [u32], n: usize, r: Words)
 {
     if n < out.len() / WIDTH {
         let a = WIDTH * n;
-        out[a] = r.code;
-        out[a + 1] = r.begin;
-        out[a + 2] = r.end;
-        out[a + 3] = r.value;
-        out[a + 4] = r.begin2;
-        out[a + 5] = r.end2;
-        out[a + 6] = r.begin3;
-        out[a + 7] = r.end3;
-        out[a + 8] = r.number;
-        out[a + 9] = r.number2;
+        out[a..a + WIDTH].copy_from_slice(&[
+            r.code,
+            r.first.begin,
+            r.first.end,
+            r.value,
+            r.second.begin,
+            r.second.end,
+            r.third.begin,
+            r.third.end,
+            r.number,
+            r.number2,
+        ]);
     }
 }
 
@@ -210,6 +180,7 @@ impl<'a> Sheet<'a> {
     }
 
     // A record of a node's own span and of no value.
+    #[tactic(auto, unfolding(crate::specs::Note::rec_of, crate::specs::Note::span_of, crate::specs::Note::value_of, crate::specs::Note::node_of, tree::specs::Forest::node_head))]
     pub fn put_plainly(&mut self, t: &[u8], code: u32, i: usize)
         ensures { Added self.old self.new (plainly code (node_head t.now i) ∷ []) }
     {
@@ -249,6 +220,7 @@ pub fn refused(why: Refusal) -> Answer
 // A pass over a file: what it needs to be run, and the records that it then adds to any sheet.
 pub trait Pass {
     ghost ready: { Self → Type 0 };
+
     ghost records: { Self → List Rec };
 
     fn lint(&self, sheet: &mut Sheet<'_>)
