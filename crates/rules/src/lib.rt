@@ -14,6 +14,28 @@ pub const LAST_CODE: u32 = CODES as u32;
 
 pub const WORK_WORDS: usize = 32768;
 
+// The codes of warnings: names 1 to 6, flow 7 to 13, incompatible 14 and 15, dubious 16 and 17.
+#[derive(Clone, Copy, Debug, PartialEq, Eq)]
+pub enum Code {
+    UnusedLoad = 1,
+    UnusedAssign = 2,
+    UnusedArgument = 3,
+    UsingUnassigned = 4,
+    UsingUndefined = 5,
+    UsingMaybeUndefined = 6,
+    MissingReturnExpression = 7,
+    MissingReturn = 8,
+    Unreachable = 9,
+    RedundantReturn = 10,
+    RedundantContinue = 11,
+    MisplacedLoad = 12,
+    NoEffect = 13,
+    IncompatibleTypeCheck = 14,
+    DuplicateTopLevelAssign = 15,
+    DuplicateKey = 16,
+    IdentAsStatement = 17,
+}
+
 // How often x = x of a loaded name is free.
 #[derive(Clone, Copy)]
 pub enum Allowance {

@@ -19,6 +19,7 @@ pub mod bytes;
 pub mod children;
 mod floats;
 pub mod keys;
+pub mod kinds;
 pub mod lookup;
 mod nodes;
 mod values;
