@@ -10,7 +10,8 @@ use lib.Seq.{set-append_seam, set_out, take-append_seam}
 use lib.Dec.{ltb}
 use borrow.Author.Tests.{lt-ltb, ltb-true, ltb-false}
 use Rattle.base.specs.Count.{one_more}
-use Rattle.page.specs.Page.{Page, page, write, writes, Wrote}
+use Rattle.page.specs.Page.{Page, page, write, writes, Wrote, Added}
+use Rattle.page.specs.declared.Writer.{Writer}
 
 pub writes_append : (p : Page) (a b : List ℕ) → writes p (a ++ b) ≡ writes (writes p a) b
 unfolding writes
@@ -128,3 +129,18 @@ as_wrote {o} s e h = record {
   so = λ rest. ap (λ (p : Page). writes p rest) e ∙ sym (writes_append (page o 0) s rest);
   most = omega arith;
 }
+
+-- ---- what was done to a writer
+
+pub nothing_added : (w : Writer) → Added w w 0 (λ rest. rest)
+nothing_added w = record { wrote = nothing_wrote w.out.now w.count; same_room = refl }
+
+-- one after the other
+pub added_then : {w w₁ w₂ : Writer} {j k : ℕ} {f g : List ℕ → List ℕ} → Added w w₁ j f → Added w₁ w₂ k g
+    → Added w w₂ (j + k) (λ rest. f (g rest))
+added_then a b = record { wrote = then a.wrote b.wrote; same_room = b.same_room ∙ a.same_room }
+
+-- the same, told with a larger bound and in other words
+pub added_retold : {w w₁ : Writer} {j : ℕ} {f : List ℕ → List ℕ} (k : ℕ) (g : List ℕ → List ℕ) → Added w w₁ j f → j ≤ k
+    → ((rest : List ℕ) → f rest ≡ g rest) → Added w w₁ k g
+added_retold k g a h e = record { wrote = retold k g a.wrote h e; same_room = a.same_room }
