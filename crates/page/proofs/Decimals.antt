@@ -8,7 +8,8 @@ use lib.ListN.{length, length-append}
 use lib.Dec.{ltb}
 use borrow.Author.Tests.{lt-ltb, le-ltb, ltb-true, ltb-false}
 use Rattle.page.specs.Digits.{digits, decimal}
-use Rattle.page.specs.Page.{Wrote}
+use Rattle.page.specs.Page.{Wrote, Added}
+use Rattle.page.specs.declared.Writer.{Writer}
 use Rattle.page.proofs.Pages.{then, retold, wrote_most}
 
 -- a number of one digit, and one of more
@@ -94,3 +95,13 @@ module _ {o o₁ : List ℕ} {n n₁ : ℕ} where
   pub number_wrote : {k : ℕ} (x : ℕ) → x < 4294967296 → Wrote o n o₁ n₁ k (λ rest. decimal x ++ rest)
       → Wrote o n o₁ n₁ 10 (λ rest. decimal x ++ rest)
   number_wrote x b p = wrote_most (decimal x) 10 (decimal_few x b) p
+
+-- the same of a writer
+module _ {w w₁ : Writer} where
+  pub small_added : (x : ℕ) {d : ℕ} → x < 10 → d ≡ 48 + x % 10 → Added w w₁ 1 (λ rest. d ∷ rest) → Added w w₁ 20 (λ rest. decimal x ++ rest)
+  small_added x h e p = record { wrote = small_wrote x h (omega arith) p.wrote; same_room = p.same_room }
+
+  pub large_added : {w₂ : Writer} (x : ℕ) {d : ℕ} → 10 ≤ x → x < 18446744073709551616 → d ≡ 48 + x % 10
+      → Added w w₁ 20 (λ rest. decimal (x / 10) ++ rest) → Added w₁ w₂ 1 (λ rest. d ∷ rest) → Added w w₂ 20 (λ rest. decimal x ++ rest)
+  large_added x h b e p q =
+      record { wrote = large_wrote x h b e p.wrote q.wrote; same_room = q.same_room ∙ p.same_room }

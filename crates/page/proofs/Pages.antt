@@ -1,5 +1,5 @@
 -- Laws of bytes written one after the other. Assumes nothing.
-use Prim.Native.Nat.{ℕ, suc, ◌+◌, ◌≤◌, ◌<◌}
+use Prim.Native.Nat.{ℕ, suc, ◌+◌, ◌≤◌, ◌<◌, min}
 use native.Mathlib.Omega.{arith}
 use native.Mathlib.Numerals.{add-one}
 use mathlib.Core.Path.{◌≡◌, refl, sym, ap, ap₂, subst, ◌∙◌}
@@ -10,7 +10,8 @@ use lib.Seq.{set-append_seam, set_out, take-append_seam}
 use lib.Dec.{ltb}
 use borrow.Author.Tests.{lt-ltb, ltb-true, ltb-false}
 use Rattle.base.specs.Count.{one_more}
-use Rattle.page.specs.Page.{Page, page, write, writes, Wrote}
+use Rattle.page.specs.Page.{Page, page, write, writes, Wrote, Added}
+use Rattle.page.specs.declared.Writer.{Writer}
 
 pub writes_append : (p : Page) (a b : List ℕ) → writes p (a ++ b) ≡ writes (writes p a) b
 unfolding writes
@@ -32,6 +33,13 @@ one_more_most n = go (ltb n 18446744073709551615)
     go : (t : Bool) → cond t (n + 1) n ≤ n + 1
     go true = omega arith
     go false = omega arith
+
+one_more_min : (n : ℕ) → n ≤ 18446744073709551615 → min (n + 1) 18446744073709551615 ≡ one_more n
+one_more_min n h = go (ltb n 18446744073709551615) refl
+  where
+    go : (t : Bool) → ltb n 18446744073709551615 ≡ t → min (n + 1) 18446744073709551615 ≡ one_more n
+    go true e = let l = ltb-true n 18446744073709551615 e in rw (lt-ltb n 18446744073709551615 l) (omega arith)
+    go false e = let l = ltb-false n 18446744073709551615 e in rw e (omega arith)
 
 -- the bytes xs are written, and there is room for s
 written_after : (s xs ys : List ℕ) → length s ≤ length ys → length xs + length s ≤ 18446744073709551615
@@ -128,3 +136,29 @@ as_wrote {o} s e h = record {
   so = λ rest. ap (λ (p : Page). writes p rest) e ∙ sym (writes_append (page o 0) s rest);
   most = omega arith;
 }
+
+-- ---- what was done to a writer
+
+pub nothing_added : (w : Writer) → Added w w 0 (λ rest. rest)
+nothing_added w = record { wrote = nothing_wrote w.out.now w.count; same_room = refl }
+
+-- one after the other
+pub added_then : {w w₁ w₂ : Writer} {j k : ℕ} {f g : List ℕ → List ℕ} → Added w w₁ j f → Added w₁ w₂ k g
+    → Added w w₂ (j + k) (λ rest. f (g rest))
+added_then a b = record { wrote = then a.wrote b.wrote; same_room = b.same_room ∙ a.same_room }
+
+-- the same, told with a larger bound and in other words
+pub added_retold : {w w₁ : Writer} {j : ℕ} {f : List ℕ → List ℕ} (k : ℕ) (g : List ℕ → List ℕ) → Added w w₁ j f → j ≤ k
+    → ((rest : List ℕ) → f rest ≡ g rest) → Added w w₁ k g
+added_retold k g a h e = record { wrote = retold k g a.wrote h e; same_room = a.same_room }
+
+-- one byte, put into the room or only counted
+pub byte_added : (w w' : Writer) (b : ℕ) → w'.out.now ≡ set w.out.now w.count b → w'.count ≡ min (w.count + 1) 18446744073709551615
+    → w.count ≤ 18446744073709551615 → w'.out.ghost_name ≡ w.out.ghost_name → Added w w' 1 (λ rest. b ∷ rest)
+byte_added w w' b e c h r =
+    let m : min (w.count + 1) 18446744073709551615 ≡ one_more w.count = one_more_min w.count h in record {
+      wrote =
+      subst (λ (k : ℕ). Wrote w.out.now w.count w'.out.now k 1 (λ rest. b ∷ rest)) (sym (c ∙ m))
+      (subst (λ (o : List ℕ). Wrote w.out.now w.count o (one_more w.count) 1 (λ rest. b ∷ rest)) (sym e) (byte_wrote w.out.now w.count b));
+      same_room = r;
+    }

@@ -1,6 +1,7 @@
 -- What is written so far: the lent bytes, and how many were to be written. Assumes nothing.
 use Rattle.std.specs.Prelude.{ℕ, ◌+◌, ◌≤◌, ◌≡◌, List, [], ◌∷◌, set}
 use Rattle.base.specs.Count.{one_more}
+use Rattle.page.specs.declared.Writer.{Writer}
 
 pub record Page : Type 0 where
   pub out : List ℕ
@@ -23,3 +24,8 @@ writes p (b ∷ bs) = writes (write p b) bs
 pub record Wrote (o : List ℕ) (n : ℕ) (o' : List ℕ) (n' k : ℕ) (f : List ℕ → List ℕ) : Type 0 where
   pub so : (rest : List ℕ) → writes (page o' n') rest ≡ writes (page o n) (f rest)
   pub most : n' ≤ n + k
+
+-- The writer w became w': what f puts before what follows is written, at most k bytes, into the same lent room.
+pub record Added (w w' : Writer) (k : ℕ) (f : List ℕ → List ℕ) : Type 0 where
+  pub wrote : Wrote w.out.now w.count w'.out.now w'.count k f
+  pub same_room : w'.out.ghost_name ≡ w.out.ghost_name

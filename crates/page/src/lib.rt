@@ -1,65 +1,66 @@
-// Bytes written one after the other into lent room. Every function is total: `n` bytes were written before, a byte for which there is no
-// room is only counted, and the count stays at the largest usize. Lent no room, a function tells how many bytes it would write.
+// Bytes written one after the other into lent room. Every function is total: a byte for which there is no room is only counted, and the
+// count stays at the largest usize. Lent no room, a writer tells how many bytes would be written.
 #![tactic(auto)]
 
 ghost use Rattle.std.specs.Prelude.{◌≡◌, ◌∷◌, ◌++◌, ◌+◌, ◌<◌, length};
-ghost use Rattle.base.specs.Count.{one_more};
-ghost use Rattle.page.specs.Page.{Wrote};
+ghost use Rattle.page.specs.Page.{Added};
 ghost use Rattle.page.specs.Digits.{decimal};
 
-fn up(n: usize) -> usize
-    ensures { result ≡ one_more n }
-{
-    if n < 18446744073709551615 {
-        return n + 1;
-    }
-    n
+// Lent room, and how many bytes were to be written into it.
+#[derive(Drop)]
+pub struct Writer<'a> {
+    pub out: &'a mut [u8],
+    pub count: usize,
 }
 
-pub fn put(out: &mut [u8], n: usize, b: u8) -> usize
-    ensures { Wrote out.old n out.new result 1 (λ rest. b ∷ rest) }
-{
-    if n < out.len() {
-        out[n] = b;
-        return n + 1;
+impl<'a> Writer<'a> {
+    // Nothing written yet.
+    pub fn new(out: &'a mut [u8]) -> Writer<'a>
+        ensures start { (result.out.now ≡ out.old) × (result.count ≡ 0) }
+        ensures same_room { result.out.ghost_name ≡ out.entry.ghost_name }
+    {
+        Writer { out, count: 0 }
     }
-    up(n)
-}
 
-// Bytes as they stand.
-pub fn raw(out: &mut [u8], n: usize, s: &[u8]) -> usize
-    ensures { Wrote out.old n out.new result (length s.now) (λ rest. s.now ++ rest) }
-{
-    let mut at = n;
-    let mut i = 0;
-    while i < s.len() {
-        at = put(out, at, s[i]);
-        i += 1;
+    pub fn put(&mut self, b: u8)
+        ensures { Added self.old self.new 1 (λ rest. b ∷ rest) }
+    {
+        if self.count < self.out.len() {
+            self.out[self.count] = b;
+        }
+        self.count = self.count.saturating_add(1);
     }
-    at
+
+    // Bytes as they stand.
+    pub fn raw(&mut self, s: &[u8])
+        ensures { Added self.old self.new (length s.now) (λ rest. s.now ++ rest) }
+    {
+        for b in s {
+            self.put(*b);
+        }
+    }
+
+    // A count in decimal digits: no number of 64 bits has more than twenty.
+    pub fn decimal(&mut self, x: usize)
+        ensures { Added self.old self.new 20 (λ rest. decimal x ++ rest) }
+    {
+        if x >= 10 {
+            self.decimal(x / 10);
+        }
+        self.put(digit(x % 10));
+    }
+
+    // A number of 32 bits has no more than ten.
+    pub fn number(&mut self, x: u32)
+        ensures { Added self.old self.new 10 (λ rest. decimal x ++ rest) }
+    {
+        self.decimal(x as usize);
+    }
 }
 
 fn digit(d: usize) -> u8
     requires { d < 10 }
     ensures { result ≡ 48 + d }
 {
-    48 + d as u8
-}
-
-// A count in decimal digits: no number of 64 bits has more than twenty.
-pub fn count(out: &mut [u8], n: usize, x: usize) -> usize
-    ensures { Wrote out.old n out.new result 20 (λ rest. decimal x ++ rest) }
-{
-    if x < 10 {
-        return put(out, n, digit(x));
-    }
-    let at = count(out, n, x / 10);
-    put(out, at, digit(x % 10))
-}
-
-// A number of 32 bits has no more than ten.
-pub fn number(out: &mut [u8], n: usize, x: u32) -> usize
-    ensures { Wrote out.old n out.new result 10 (λ rest. decimal x ++ rest) }
-{
-    count(out, n, x as usize)
+    b'0' + d as u8
 }
