@@ -1,43 +1,29 @@
 -- What each step and return of the walks shows. Assumes nothing.
+use Rattle.std.specs.Prelude.{Option, None, Some}
 use Prim.Native.Nat.{ℕ, ◌+◌, ◌≤◌, ◌<◌}
 use native.Mathlib.Omega.{arith}
 use mathlib.Core.Path.{◌≡◌, refl, sym, ap, ◌∙◌}
 use mathlib.Core.List.{List, [], ◌∷◌, ◌++◌, append-nil}
 use mathlib.Core.Bool.{Bool, true, false, cond, ◌&&◌}
-use lib.Dec.{eqb, ltb}
-use borrow.Author.Tests.{ne_eqb, lt-ltb, le-ltb}
-use Rattle.tree.specs.Bytes.{kind_at, role_at, size_at, value_at, pick}
+use lib.Dec.{eqb}
+use borrow.Author.Tests.{ne_eqb}
+use Rattle.tree.specs.Bytes.{kind_at, size_at, value_at}
 use Rattle.tree.specs.Forest.{Head, Forest, node, node_spot, node_head, forest_of}
 use Rattle.tree.specs.code.Part.{Part, Subtree}
 use Rattle.tree.specs.declared.Likeness.{Likeness}
 use Rattle.tree.specs.declared.Likeness.TheVariants.{Different, SameForm, SameNumber}
 use Rattle.tree.specs.Keys.{alike}
 use Rattle.tree.specs.code.Numbers.{like_by}
-use Rattle.tree.specs.code.Find.{child_of}
+use Rattle.tree.specs.code.Find.{child_of, first_child}
 use Rattle.rules.specs.Record.{Rec, named_at, listed}
 use Rattle.rules.specs.Visit.{head_at, kind_among}
 use Rattle.rules.specs.Dubious.{keys, double, clash, against, doubles, dict_at, idle_at}
 use Rattle.tree.proofs.Laws.{sized, first, kids}
-use Rattle.answer.specs.Page.{Page, write, writes}
-use Rattle.answer.proofs.Laws.{writes_none, writes_one}
+use Rattle.tree.proofs.FirstChild.{child_some, child_none}
 use Rattle.answer.proofs.Flat.{past, over, split}
-use Rattle.answer.proofs.Bits.{eqb_swap, and_false}
+use Rattle.answer.proofs.Bits.{and_false}
 use Rattle.answer.proofs.ByRole.{kind_there, kind_absent, head_there}
 use Rattle.dubious.specs.Scan.{is_key, before, seen, doubled, clashes}
-
--- ---- is_key
-
-pub key_no : (t : List ℕ) (j : ℕ) → (role_at t j ≡ 8 → ⊥) → false ≡ is_key (node_head t j)
-unfolding node_head
-key_no t j h = rw (ne_eqb 8 (role_at t j) (λ z. h (sym z)))
-
-pub key_name : (t : List ℕ) (j : ℕ) → role_at t j ≡ 8 → kind_at t j ≡ 20 → true ≡ is_key (node_head t j)
-unfolding node_head
-key_name t j h k = rw (h, k)
-
-pub key_literal : (t : List ℕ) (j : ℕ) → role_at t j ≡ 8 → (kind_at t j ≡ 20 → ⊥) → eqb (kind_at t j) 21 ≡ is_key (node_head t j)
-unfolding node_head
-key_literal t j h k = rw (h, ne_eqb 20 (kind_at t j) (λ z. k (sym z))) (eqb_swap (kind_at t j) 21)
 
 -- ---- keys of siblings
 
@@ -87,14 +73,15 @@ module _ (ns t : List ℕ) (j : ℕ) where
   abbrev pub of_j : List Head → List Rec
   of_j = against (like_by ns) (node_head t j)
 
-  -- the key at node r, where r is below j
-  abbrev pub at_most : ℕ → List Head
-  at_most r = listed (ltb r j) (node_head t r ∷ []) []
+  -- the key at node r, if there is one
+  abbrev pub at_most : Option ℕ → List Head
+  at_most None = []
+  at_most (Some r) = node_head t r ∷ []
 
   abbrev pub equal : ℕ → Bool
   equal m = alike (like_by ns (value_at t m) (value_at t j))
 
-  pub record Scanned (i old m : ℕ) : Type 0 where
+  pub record Scanned (i : ℕ) (old : Option ℕ) (m : ℕ) : Type 0 where
     pub hit : of_j (at_most old) ≡ doubled ns t old j
     pub left : of_j (before (keys (forest_of t m j)) (at_most old)) ≡ clashes ns t i j
 
@@ -112,53 +99,45 @@ module _ (ns t : List ℕ) (j : ℕ) where
   unfolding node_head node_spot
   other_here m e xs = clash_other (like_by ns (value_at t m) (value_at t j)) (node_head t m) (node_head t j) (of_j xs) e
 
-  pub scan_start : (i : ℕ) → Scanned i j i
-  scan_start i = let z : ltb j j ≡ false = le-ltb j j (omega arith) in record { hit = rw z; left = rw z }
+  pub scan_start : (i : ℕ) → Scanned i None i
+  scan_start i = record { hit = refl; left = refl }
 
-  pub scan_end : (i old m : ℕ) → Scanned i old m → j ≤ m → clashes ns t i j ≡ doubled ns t old j
+  pub scan_end : (i : ℕ) (old : Option ℕ) (m : ℕ) → Scanned i old m → j ≤ m → clashes ns t i j ≡ doubled ns t old j
   unfolding before
   scan_end i old m s h = sym (rw (keys_past t m j h) at s.left) ∙ s.hit
 
-  pub scan_step : (i old m r : ℕ) → Part t m j → m < j → Scanned i old m → r ≡ pick (is_key (node_head t m) && equal m) m old
-      → Scanned i r (m + size_at t m)
-  unfolding before node_head
-  scan_step i old m r p lt s e = rw e (go (is_key (node_head t m)) (equal m) refl refl)
-    where
-      rest_keys : List Head
-      rest_keys = keys (forest_of t (m + size_at t m) j)
+  module _ (i : ℕ) (old : Option ℕ) (m : ℕ) (p : Part t m j) (lt : m < j) (s : Scanned i old m) where
+    abbrev rest_keys : List Head
+    rest_keys = keys (forest_of t (m + size_at t m) j)
 
-      opened : of_j (before (key_of (node_head t m) ++ rest_keys) (at_most old)) ≡ clashes ns t i j
-      opened = rw (keys_over p lt) at s.left
+    opened : of_j (before (key_of (node_head t m) ++ rest_keys) (at_most old)) ≡ clashes ns t i j
+    opened = rw (keys_over p lt) at s.left
 
-      go : (a b : Bool) → is_key (node_head t m) ≡ a → equal m ≡ b → Scanned i (pick (a && b) m old) (m + size_at t m)
-      go false b u v = record { hit = s.hit; left = rw u at opened }
-      go true true u v =
-          let z : ltb m j ≡ true = lt-ltb m j lt in
-          record {
-            hit = rw z (equal_here m v []);
-            left =
-                rw z (before_same rest_keys (node_head t m ∷ []) (node_head t m ∷ at_most old) (equal_here m v [] ∙ sym (equal_here m v (at_most old))))
-                ∙ rw u at opened;
-          }
-      go true false u v =
-          record { hit = s.hit; left = before_same rest_keys (at_most old) (node_head t m ∷ at_most old) (sym (other_here m v (at_most old))) ∙ rw u at opened }
+    -- node m is a key equal to that of node j, or it is not
+    pub scan_hit : true ≡ is_key (node_head t m) && equal m → Scanned i (Some m) (m + size_at t m)
+    unfolding before node_head
+    scan_hit e = go (is_key (node_head t m)) (equal m) refl refl e
+      where
+        go : (a b : Bool) → is_key (node_head t m) ≡ a → equal m ≡ b → true ≡ a && b → Scanned i (Some m) (m + size_at t m)
+        go true true u v w =
+            record {
+              hit = equal_here m v [];
+              left =
+                  before_same rest_keys (node_head t m ∷ []) (node_head t m ∷ at_most old) (equal_here m v [] ∙ sym (equal_here m v (at_most old)))
+                  ∙ rw u at opened;
+            }
+        go true false u v w = cc
+        go false b u v w = cc
 
--- ---- 16
-
-module _ (ns t : List ℕ) (i j : ℕ) (p : Page) where
-  abbrev pub clash_recs : List Rec
-  clash_recs = listed (is_key (node_head t j)) (clashes ns t i j) []
-
-  pub clash_no : is_key (node_head t j) ≡ false → p ≡ writes p clash_recs
-  clash_no b = rw b (sym (writes_none p))
-
-  pub clash_new : (old : ℕ) → clashes ns t i j ≡ doubled ns t old j → j ≤ old → is_key (node_head t j) ≡ true → p ≡ writes p clash_recs
-  clash_new old e h b = let z : ltb old j ≡ false = le-ltb old j h in rw (b, e, z) (sym (writes_none p))
-
-  pub clash_put : (old : ℕ) → clashes ns t i j ≡ doubled ns t old j → old < j → is_key (node_head t j) ≡ true → {q : Page}
-      → q ≡ write p (double (like_by ns (value_at t old) (value_at t j)) (node_head t old) (node_head t j)) → q ≡ writes p clash_recs
-  clash_put old e h b w =
-      let z : ltb old j ≡ true = lt-ltb old j h in rw (b, e, z) (w ∙ sym (writes_one p _))
+    pub scan_over : false ≡ is_key (node_head t m) && equal m → Scanned i old (m + size_at t m)
+    unfolding before node_head
+    scan_over e = go (is_key (node_head t m)) (equal m) refl refl e
+      where
+        go : (a b : Bool) → is_key (node_head t m) ≡ a → equal m ≡ b → false ≡ a && b → Scanned i old (m + size_at t m)
+        go false b u v w = record { hit = s.hit; left = rw u at opened }
+        go true true u v w = cc
+        go true false u v w =
+            record { hit = s.hit; left = before_same rest_keys (at_most old) (node_head t m ∷ at_most old) (sym (other_here m v (at_most old))) ∙ rw u at opened }
 
 -- the keys from node j on, with those before it
 abbrev pub from_key : List ℕ → List ℕ → ℕ → ℕ → ℕ → List Rec
@@ -183,51 +162,58 @@ pub dict_start : (ns t : List ℕ) (i e : ℕ) → from_key ns t i i e ≡ doubl
 unfolding before
 dict_start ns t i e = rw (keys_past t i i (omega arith))
 
--- ---- 17: node i, its children up to e, the first of role 4 at j
+-- ---- 16 and 17: what a node gives
 
-module _ (t : List ℕ) (i e j : ℕ) (w : Subtree t i) (p : Page) where
+module _ (ns t : List ℕ) (i j : ℕ) where
+  abbrev pub clash_recs : List Rec
+  clash_recs = listed (is_key (node_head t j)) (clashes ns t i j) []
+
+  pub clash_no : false ≡ is_key (node_head t j) → clash_recs ≡ []
+  clash_no b = rw (sym b)
+
+  pub clash_key : (old : Option ℕ) → true ≡ is_key (node_head t j) → clashes ns t i j ≡ doubled ns t old j → clash_recs ≡ doubled ns t old j
+  clash_key old b e = rw (sym b, append-nil) e
+
+pub dict_no : (ns t : List ℕ) (i e : ℕ) → (kind_at t i ≡ 29 → ⊥) → dict_at (like_by ns) (node_head t i) (forest_of t (i + 1) e) ≡ []
+unfolding node_head
+dict_no ns t i e h = rw (ne_eqb 29 (kind_at t i) (λ z. h (sym z)))
+
+pub dict_yes : (ns t : List ℕ) (i e : ℕ) → kind_at t i ≡ 29
+    → dict_at (like_by ns) (node_head t i) (forest_of t (i + 1) e) ≡ doubles (like_by ns) [] (keys (forest_of t (i + 1) e))
+unfolding node_head
+dict_yes ns t i e k = rw (k, append-nil)
+
+module _ {t : List ℕ} {i : ℕ} (w : Subtree t i) where
+  below : Part t (i + 1) (i + size_at t i)
+  below = kids w.part (omega (arith, w.some))
+
   abbrev pub idle_recs : List Rec
   idle_recs = idle_at (node_head t i) (forest_of t (i + 1) (i + size_at t i))
 
-  pub idle_no : (kind_at t i ≡ 5 → ⊥) → p ≡ writes p idle_recs
+  pub idle_no : (kind_at t i ≡ 5 → ⊥) → idle_recs ≡ []
   unfolding node_head
-  idle_no h = rw (ne_eqb 5 (kind_at t i) (λ z. h (sym z))) (sym (writes_none p))
+  idle_no h = rw (ne_eqb 5 (kind_at t i) (λ z. h (sym z)))
 
-  module _ (ee : e ≡ i + size_at t i) (ej : j ≡ child_of t 4 (i + 1) e) where
-    below : Part t (i + 1) (i + size_at t i)
-    below = kids w.part (omega (arith, w.some))
+  pub idle_absent : ◌≡◌ {A = Option ℕ} None (first_child t 4 (i + 1) (i + size_at t i)) → idle_recs ≡ []
+  unfolding node_head
+  idle_absent e =
+      let z = kind_absent 4 below (child_none t 4 (i + 1) (i + size_at t i) e) in rw (z, and_false (eqb 5 (kind_at t i)))
 
-    pub idle_absent : e ≤ j → p ≡ writes p idle_recs
+  -- node j is the first child of role 4
+  module _ (j : ℕ) (f : ◌≡◌ {A = Option ℕ} (Some j) (first_child t 4 (i + 1) (i + size_at t i))) where
+    found : (j ≡ child_of t 4 (i + 1) (i + size_at t i)) × (j < i + size_at t i)
+    found = child_some t 4 (i + 1) (i + size_at t i) j f
+
+    kind_found : kind_among 4 (forest_of t (i + 1) (i + size_at t i)) ≡ kind_at t j
+    kind_found = rw found.0 (kind_there 4 below (omega (arith, w.some)) (rw found.0 at found.1))
+
+    pub idle_other : (kind_at t j ≡ 20 → ⊥) → idle_recs ≡ []
     unfolding node_head
-    idle_absent h =
-        let z = kind_absent 4 below (rw (ej, ee) at h) in
-        rw (z, and_false (eqb 5 (kind_at t i))) (sym (writes_none p))
+    idle_other k = rw (kind_found, ne_eqb 20 (kind_at t j) (λ y. k (sym y)), and_false (eqb 5 (kind_at t i)))
 
-    pub idle_other : j < e → (kind_at t j ≡ 20 → ⊥) → p ≡ writes p idle_recs
+    pub idle_here : kind_at t i ≡ 5 → kind_at t j ≡ 20 → idle_recs ≡ named_at 17 (node_head t j) ∷ []
     unfolding node_head
-    idle_other h k =
-        let z : kind_among 4 (forest_of t (i + 1) (i + size_at t i)) ≡ kind_at t j
-        = kind_there 4 below (omega (arith, w.some)) (rw (ej, ee) at h) ∙ rw (ej, ee) in
-        rw (z, ne_eqb 20 (kind_at t j) (λ y. k (sym y)), and_false (eqb 5 (kind_at t i))) (sym (writes_none p))
-
-    pub idle_put : kind_at t i ≡ 5 → j < e → kind_at t j ≡ 20 → {q : Page} → q ≡ write p (named_at 17 (node_head t j)) → q ≡ writes p idle_recs
-    unfolding node_head
-    idle_put a h k u =
-        let z : kind_among 4 (forest_of t (i + 1) (i + size_at t i)) ≡ 20
-        = kind_there 4 below (omega (arith, w.some)) (rw (ej, ee) at h) ∙ (rw (ej, ee) at k) in
+    idle_here a k =
         let y : head_at 4 (forest_of t (i + 1) (i + size_at t i)) ≡ node_head t j
-        = head_there 4 below (omega (arith, w.some)) (rw (ej, ee) at h) ∙ rw (ej, ee) in
-        rw (a, z, y) (u ∙ sym (writes_one p _))
-
-module _ (ns t : List ℕ) (i e : ℕ) (p : Page) where
-  abbrev pub expr_recs : List Rec
-  expr_recs = dict_at (like_by ns) (node_head t i) (forest_of t (i + 1) (i + size_at t i))
-
-  pub expr_no : (kind_at t i ≡ 29 → ⊥) → p ≡ writes p expr_recs
-  unfolding node_head
-  expr_no h = rw (ne_eqb 29 (kind_at t i) (λ z. h (sym z))) (sym (writes_none p))
-
-  pub expr_dict : kind_at t i ≡ 29 → e ≡ i + size_at t i → {q : Page}
-      → q ≡ writes p (doubles (like_by ns) [] (keys (forest_of t (i + 1) e))) → q ≡ writes p expr_recs
-  unfolding node_head
-  expr_dict k ee w = rw (k, append-nil) (rw ee at w)
+        = rw found.0 (head_there 4 below (omega (arith, w.some)) (rw found.0 at found.1)) in
+        rw (a, kind_found, k, y)

@@ -1,10 +1,10 @@
 -- What private functions promise: duplicate keys by the table of the numbers that stand for keys. Assumes nothing.
 -- Nobody has to believe them: proofs/Keyed shows that of a valid file these are the keys of 01 and 02, §11.
-use Rattle.std.specs.Prelude.{ℕ, Bool, ◌&&◌, ◌||◌, List, [], ◌∷◌, eqb, ltb}
+use Rattle.std.specs.Prelude.{ℕ, Bool, ◌&&◌, ◌||◌, List, [], ◌∷◌, Option, None, Some, eqb}
 use Rattle.tree.specs.Bytes.{value_at}
 use Rattle.tree.specs.Forest.{Head, Forest, node_head, forest_of}
 use Rattle.tree.specs.code.Numbers.{like_by}
-use Rattle.rules.specs.Record.{Rec, listed}
+use Rattle.rules.specs.Record.{Rec}
 use Rattle.rules.specs.Dubious.{keys, double, against}
 
 -- a child of a dict that is a key
@@ -20,9 +20,10 @@ before (s ∷ ss) seen = before ss (s ∷ seen)
 abbrev pub seen : Forest → List Head
 seen f = before (keys f) []
 
--- 16 for the key at node j, where node r below it is the previous equal key
-abbrev pub doubled : List ℕ → List ℕ → ℕ → ℕ → List Rec
-doubled ns t r j = listed (ltb r j) (double (like_by ns (value_at t r) (value_at t j)) (node_head t r) (node_head t j) ∷ []) []
+-- 16 for the key at node j, where node r is the previous equal key, if there is one
+abbrev pub doubled : List ℕ → List ℕ → Option ℕ → ℕ → List Rec
+doubled ns t None j = []
+doubled ns t (Some r) j = double (like_by ns (value_at t r) (value_at t j)) (node_head t r) (node_head t j) ∷ []
 
 -- the key at node j against those of its siblings from node i on
 abbrev pub clashes : List ℕ → List ℕ → ℕ → ℕ → List Rec

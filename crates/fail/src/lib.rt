@@ -9,6 +9,7 @@ ghost use Rattle.tree.specs.code.Part.{Part};
 ghost use Rattle.rules.specs.Order.{fail_named, fail_called};
 
 use tree::bytes::{kind_at, role_at, size_at, value_at};
+use tree::kinds::{Kind, Role};
 
 // The sibling after node j, of siblings that end at e.
 fn next(t: &[u8], j: usize, e: usize) -> usize
@@ -16,26 +17,16 @@ fn next(t: &[u8], j: usize, e: usize) -> usize
     ensures { (j < result) × (result ≤ e) × (Part t.now j e → result ≡ j + size_at t.now j) }
 {
     let size = size_at(t, j);
-    if size == 0 {
-        return e;
-    }
-    if e - j <= size {
-        return e;
-    }
-    j + size
+    if size == 0 || e - j <= size { e } else { j + size }
 }
 
 // Node j is a function that is the identifier fail.
 fn is_named(t: &[u8], fail: usize, j: usize) -> bool
     ensures { result ≡ (eqb 7 (role_at t.now j) && (eqb 20 (kind_at t.now j) && eqb (value_at t.now j) fail)) }
 {
-    if role_at(t, j) != 7 {
-        return false;
-    }
-    if kind_at(t, j) != 20 {
-        return false;
-    }
-    value_at(t, j) == fail
+    role_at(t, j) == Role::Function as usize
+        && kind_at(t, j) == Kind::Identifier as usize
+        && value_at(t, j) == fail
 }
 
 // The function among the children from i up to e is the identifier fail.
@@ -43,6 +34,7 @@ fn names_fail(t: &[u8], fail: usize, i: usize, e: usize) -> bool
     ensures { Part t.now i e → result ≡ fail_named (λ v. eqb v fail) (forest_of t.now i e) }
 {
     let mut j = i;
+    // Kept: the step is the size that node j has, which no range counts by.
     while j < e {
         if is_named(t, fail, j) {
             return true;
@@ -57,13 +49,9 @@ fn is_call(t: &[u8], fail: usize, j: usize, e: usize) -> bool
     requires { j < e }
     ensures { Part t.now (j + 1) e → result ≡ (eqb 4 (role_at t.now j) && (eqb 23 (kind_at t.now j) && fail_named (λ v. eqb v fail) (forest_of t.now (j + 1) e))) }
 {
-    if role_at(t, j) != 4 {
-        return false;
-    }
-    if kind_at(t, j) != 23 {
-        return false;
-    }
-    names_fail(t, fail, j + 1, e)
+    role_at(t, j) == Role::Expression as usize
+        && kind_at(t, j) == Kind::Call as usize
+        && names_fail(t, fail, j + 1, e)
 }
 
 // The expression among a statement's children, from i up to e, is a call of fail.
@@ -71,6 +59,7 @@ pub fn is_fail(t: &[u8], fail: usize, i: usize, e: usize) -> bool
     ensures { Part t.now i e → result ≡ fail_called (λ v. eqb v fail) (forest_of t.now i e) }
 {
     let mut j = i;
+    // Kept: the step is the size that node j has, which no range counts by.
     while j < e {
         let n = next(t, j, e);
         if is_call(t, fail, j, n) {

@@ -1,7 +1,7 @@
 -- What private functions of last, ends and returns promise and require. Assumes nothing.
 -- Nobody has to believe them: the walk's promise is the rule's list.
-use Rattle.std.specs.Prelude.{Ok}
-use Rattle.std.specs.Prelude.{ℕ, ◌+◌, ◌≤◌, ◌<◌, ◌≡◌, cond, List, [], ◌∷◌, eqb, ltb}
+use Rattle.std.specs.Prelude.{Ok, Option as Maybe, Some, None}
+use Rattle.std.specs.Prelude.{ℕ, ◌+◌, ◌≤◌, ◌<◌, ◌≡◌, cond, List, [], ◌∷◌, eqb}
 use Rattle.std.proofs.Math.Option.{Option, none, some}
 use Rattle.tree.specs.Bytes.{kind_at, size_at}
 use Rattle.tree.specs.Forest.{Head, Forest, Forest.none as leaf, node, node_head, forest_of}
@@ -26,14 +26,15 @@ unfoldable pub last_node : ℕ → Forest → Forest
 last_node r leaf = leaf
 last_node r (node h k s) = later_of (last_node r s) (cond (eqb r h.role) (node h k leaf) leaf)
 
--- node j with what is below it, where j is below e
-unfoldable pub node_if : List ℕ → ℕ → ℕ → Forest
-node_if t j e = cond (ltb j e) (node (node_head t j) (forest_of t (j + 1) (j + size_at t j)) leaf) leaf
+-- node j with what is below it, where there is one
+unfoldable pub node_if : List ℕ → Maybe ℕ → Forest
+node_if t None = leaf
+node_if t (Some j) = node (node_head t j) (forest_of t (j + 1) (j + size_at t j)) leaf
 
--- j is the last of the siblings from node i up to e that has role r; not below e where there is none
-pub record Last (t : List ℕ) (r i e j : ℕ) : Type 0 where
-  pub from : j < e → i ≤ j
-  pub found : last_node r (forest_of t i e) ≡ node_if t j e
+-- found is the last of the siblings from node i up to e that has role r
+pub record Last (t : List ℕ) (r i e : ℕ) (found : Maybe ℕ) : Type 0 where
+  pub within : (j : ℕ) → found ≡ Some j → (i ≤ j) × (j < e)
+  pub so : last_node r (forest_of t i e) ≡ node_if t found
 
 -- ---- defs
 
@@ -59,9 +60,10 @@ pub record DefAt (t : List ℕ) (i : ℕ) : Type 0 where
   pub at : TidyAt t i
   pub kind : kind_at t i ≡ 12
 
--- the head of node j; 65536, which is no node's number, stands for none
-unfoldable pub head_if : List ℕ → ℕ → Option Head
-head_if t j = cond (ltb j 65536) (some (node_head t j)) none
+-- the head of node j, where there is one
+unfoldable pub head_if : List ℕ → Maybe ℕ → Option Head
+head_if t None = none
+head_if t (Some j) = some (node_head t j)
 
 -- what a node is itself among the returns
 unfoldable pub own : Head → Forest → List Return

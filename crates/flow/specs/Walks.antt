@@ -1,5 +1,5 @@
 -- What private functions of the walks promise. Assumes nothing. Nobody has to believe them: the public call cites the rules alone.
-use Rattle.std.specs.Prelude.{ℕ, ◌+◌, ◌<◌, ◌≡◌, Bool, true, false, cond, ◌&&◌, List, [], eqb, ltb, get_or}
+use Rattle.std.specs.Prelude.{ℕ, ◌+◌, ◌<◌, ◌≡◌, Bool, true, false, cond, ◌&&◌, List, [], eqb, ltb, leb, get_or}
 use Rattle.tree.specs.Bytes.{kind_at, size_at, pick}
 use Rattle.tree.specs.Forest.{Head, Forest}
 use Rattle.tree.specs.code.Find.{child_of}
@@ -7,7 +7,7 @@ use Rattle.rules.specs.Record.{Rec}
 use Rattle.rules.specs.Visit.{look}
 use Rattle.rules.specs.Flow.{Effect, some_effect, none_effect, by_children, effects, effect_part, Loads, loads_part, Reached, after_stop, in_list, reached}
 use Rattle.answer.specs.declared.Sheet.{Sheet}
-use Rattle.answer.specs.Page.{writes, page}
+use Rattle.answer.specs.Page.{Added}
 
 -- a value is the name of this number
 abbrev pub is_name : ℕ → ℕ → Bool
@@ -27,6 +27,10 @@ acts_by by_children = false
 
 abbrev pub acting : List Bool → Head → Bool
 acting strings h = cond (eqb 21 h.kind) (is_text strings h.spot.value) (acts_by (look h.kind effects some_effect))
+
+-- conditionals, tuples, lists and dicts
+abbrev pub by_them : ℕ → Bool
+by_them k = leb 27 k && leb k 30
 
 -- the next node to look at
 abbrev pub onto : Effect → ℕ → ℕ → ℕ
@@ -63,6 +67,6 @@ left is_fail true f = record { stops = true; recs = after_stop f }
 left is_fail false f = reached is_fail in_list f
 
 -- what a walk writes and hands back
-pub record Walked (o o' : List ℕ) (s s' : Sheet) (b : Bool) (w : Reached) : Type 0 where
-  pub written : page o' s' ≡ writes (page o s) w.recs
+pub record Walked (s s' : Sheet) (b : Bool) (w : Reached) : Type 0 where
+  pub written : Added s s' w.recs
   pub stops : b ≡ w.stops

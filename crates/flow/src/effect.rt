@@ -4,49 +4,45 @@ ghost use Rattle.tree.specs.Bytes.{size_at};
 ghost use Rattle.tree.specs.Forest.{node_head, forest_of};
 ghost use Rattle.tree.specs.code.Part.{Part, Subtree};
 ghost use Rattle.rules.specs.Flow.{effect, effect_walk};
-ghost use Rattle.answer.specs.Page.{writes, page};
+ghost use Rattle.answer.specs.Page.{Added};
 ghost use Rattle.flow.specs.Returns.{Checked};
-ghost use Rattle.flow.specs.Walks.{Stated, is_text, acting, inside, idle_at, past_of};
+ghost use Rattle.flow.specs.Walks.{Stated, is_text, by_them, acting, inside, idle_at, past_of};
 
 use crate::loads::is_string;
-use answer::{Sheet, put_plainly};
+use answer::Sheet;
+use rules::Code;
 use tree::bytes::{kind_at, size_at, value_at};
 use tree::children::child_of;
+use tree::kinds::{Kind, Role};
 
-// Node j has effect by itself: a string literal, and what is no literal, ellipsis, lambda, conditional, tuple, list or dict.
+// Conditionals, tuples, lists and dicts have effect by their children.
+fn by_children(k: usize) -> bool
+    ensures { result ≡ by_them k }
+{
+    Kind::Tuple as usize <= k && k <= Kind::Conditional as usize
+}
+
+// Node j has effect by itself: a string literal, and what is no literal, ellipsis or lambda, and has none by its children.
 fn acts(t: &[u8], strings: &[bool; 512], j: usize) -> bool
     ensures { result ≡ acting strings.now (node_head t.now j) }
 {
     let k = kind_at(t, j);
-    if k == 21 {
+    if k == Kind::Literal as usize {
         return is_string(strings, value_at(t, j));
     }
-    if k == 22 {
-        return false;
-    }
-    if k == 24 {
-        return false;
-    }
-    if k < 27 {
-        return true;
-    }
-    30 < k
+    k != Kind::Ellipsis as usize && k != Kind::Lambda as usize && !by_children(k)
 }
 
-// Conditionals, tuples, lists and dicts have effect by their children; the insides of any other node are not looked at.
+// The insides of what has no effect by its children are not looked at.
 fn inward(t: &[u8], j: usize) -> usize
     requires { j < 1024 }
     ensures { result ≡ inside t.now j }
 {
-    let k = kind_at(t, j);
-    let past = j + size_at(t, j);
-    if k < 27 {
-        return past;
+    if by_children(kind_at(t, j)) {
+        j + 1
+    } else {
+        j + size_at(t, j)
     }
-    if 30 < k {
-        return past;
-    }
-    j + 1
 }
 
 // One of the siblings from i up to e has effect.
@@ -55,6 +51,7 @@ fn has_effect(t: &[u8], strings: &[bool; 512], i: usize, e: usize) -> bool
     ensures { result ≡ effect (is_text strings.now) (forest_of t.now i e) }
 {
     let mut j = i;
+    // Kept: the step is what inward reads at node j, which no range counts by.
     while j < e {
         if acts(t, strings, j) {
             return true;
@@ -64,18 +61,20 @@ fn has_effect(t: &[u8], strings: &[bool; 512], i: usize, e: usize) -> bool
     false
 }
 
-fn idle(t: &[u8], strings: &[bool; 512], i: usize, out: &mut [u32], s: Sheet) -> Sheet
+fn idle(t: &[u8], strings: &[bool; 512], i: usize, sheet: &mut Sheet<'_>)
     requires { Subtree t.now i × Stated t.now i }
-    ensures { page out.new result ≡ writes (page out.old s) (idle_at strings.now (node_head t.now i) (forest_of t.now (i + 1) (i + size_at t.now i))) }
+    ensures { Added sheet.old sheet.new (idle_at strings.now (node_head t.now i) (forest_of t.now (i + 1) (i + size_at t.now i))) }
 {
-    if kind_at(t, i) != 5 {
-        return s;
+    if kind_at(t, i) != Kind::Expression as usize {
+        return;
     }
     let e = i + size_at(t, i);
     if has_effect(t, strings, i + 1, e) {
-        return s;
+        return;
     }
-    put_plainly(t, out, s, 13, child_of(t, 4, i + 1, e))
+    if let Some(j) = child_of(t, Role::Expression as usize, i + 1, e) {
+        sheet.put_plainly(t, Code::NoEffect as u32, j);
+    }
 }
 
 // The insides of an expression statement hold no statement.
@@ -83,27 +82,21 @@ fn next(t: &[u8], i: usize) -> usize
     requires { i < 1024 }
     ensures { result ≡ past_of 5 t.now i }
 {
-    if kind_at(t, i) == 5 {
-        return i + size_at(t, i);
+    if kind_at(t, i) == Kind::Expression as usize {
+        i + size_at(t, i)
+    } else {
+        i + 1
     }
-    i + 1
 }
 
-pub(crate) fn no_effect(
-    t: &[u8],
-    strings: &[bool; 512],
-    n: usize,
-    out: &mut [u32],
-    s: Sheet,
-) -> Sheet
+pub(crate) fn no_effect(t: &[u8], strings: &[bool; 512], n: usize, sheet: &mut Sheet<'_>)
     requires { Checked t.now n }
-    ensures { page out.new result ≡ writes (page out.old s) (effect_walk (is_text strings.now) (forest_of t.now 0 n)) }
+    ensures { Added sheet.old sheet.new (effect_walk (is_text strings.now) (forest_of t.now 0 n)) }
 {
-    let mut r = s;
     let mut i = 0;
+    // Kept: the step is what next reads at node i, which no range counts by.
     while i < n {
-        r = idle(t, strings, i, out, r);
+        idle(t, strings, i, sheet);
         i = next(t, i);
     }
-    r
 }

@@ -1,29 +1,22 @@
 // The last of some siblings.
-ghost use Rattle.std.specs.Prelude.{◌≡◌, eqb};
-ghost use Rattle.tree.specs.Bytes.{role_at, pick};
+ghost use Rattle.std.specs.Prelude.{◌≡◌};
 ghost use Rattle.tree.specs.code.Part.{Part};
 ghost use Rattle.flow.specs.Returns.{Last};
 
 use tree::bytes::{role_at, size_at};
 
-fn later_of(t: &[u8], r: usize, j: usize, last: usize) -> usize
-    ensures { result ≡ pick (eqb r (role_at t.now j)) j last }
-{
-    if role_at(t, j) == r {
-        return j;
-    }
-    last
-}
-
-// The last of the siblings from node i up to e that has role r; e where there is none.
-pub(crate) fn last_of(t: &[u8], r: usize, i: usize, e: usize) -> usize
+// The last of the siblings from node i up to e that has the role.
+pub(crate) fn last_of(t: &[u8], role: usize, i: usize, e: usize) -> Option<usize>
     requires { Part t.now i e }
-    ensures { Last t.now r i e result }
+    ensures { Last t.now role i e result }
 {
-    let mut last = e;
+    let mut last = None;
     let mut j = i;
+    // Kept: the step is the size that node j has, which no range counts by.
     while j < e {
-        last = later_of(t, r, j, last);
+        if role_at(t, j) == role {
+            last = Some(j);
+        }
         j += size_at(t, j);
     }
     last

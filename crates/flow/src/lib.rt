@@ -2,19 +2,14 @@
 // Cost: each walk visits a node a bounded number of times; the deepest calls follow the depth of the tree, 48.
 #![tactic(auto)]
 
-ghost use Rattle.std.specs.Prelude.{◌≡◌, eqb};
-ghost use Rattle.tree.specs.Forest.{forest_of};
+ghost use Rattle.std.specs.Prelude.{◌≡◌};
 ghost use Rattle.tree.specs.Judge.{judged};
-ghost use Rattle.rules.specs.Flow.{flow};
 ghost use Rattle.rules.specs.Calls.{flow_call};
-ghost use Rattle.answer.specs.Page.{writes, page};
-ghost use Rattle.flow.specs.Returns.{Checked};
-ghost use Rattle.flow.specs.Walks.{is_text};
 
-use answer::{Sheet, started};
-use rules::{Answer, CODES, Refusal, WIDTH};
+use answer::{Pass, Sheet, answered, refused};
+use rules::{Answer, CODES};
 use tree::lookup::{number_of, strings};
-use tree::{Facts, Judged, judge};
+use tree::{Facts, judge};
 
 mod effect;
 mod ends;
@@ -24,23 +19,33 @@ mod reach;
 mod redundant;
 mod returns;
 
-fn lint(
-    t: &[u8],
+// A file of n nodes, the numbers of its names fail and None, and which of its values are strings.
+// Kept: a name that the file has not is 65536, no value's number, so that it compares like any other (number_of is tree's, and gives it).
+struct Walks<'a> {
+    t: &'a [u8],
+    n: usize,
     fail: usize,
     none: usize,
-    strings: &[bool; 512],
-    n: usize,
-    out: &mut [u32],
-    s: Sheet,
-) -> Sheet
-    requires { Checked t.now n }
-    ensures { page out.new result ≡ writes (page out.old s) (flow (λ v. eqb v fail) (λ v. eqb v none) (is_text strings.now) (forest_of t.now 0 n)) }
-{
-    let a = returns::stmt(t, fail, none, n, out, s);
-    let b = reach::whole(t, fail, n, out, a);
-    let c = redundant::redundant(t, n, out, b);
-    let d = loads::misplaced_load(t, strings, n, out, c);
-    effect::no_effect(t, strings, n, out, d)
+    strings: [bool; 512],
+}
+
+impl Pass for Walks<'_> {
+    ghost use Rattle.std.specs.Prelude.{eqb};
+    ghost use Rattle.tree.specs.Forest.{forest_of};
+    ghost use Rattle.rules.specs.Flow.{flow};
+    ghost use Rattle.flow.specs.Returns.{Checked};
+    ghost use Rattle.flow.specs.Walks.{is_text};
+
+    ghost ready = { λ p. Checked p.t.now p.n };
+    ghost records = { λ p. flow (λ v. eqb v p.fail) (λ v. eqb v p.none) (is_text p.strings) (forest_of p.t.now 0 p.n) };
+
+    fn lint(&self, sheet: &mut Sheet<'_>) {
+        returns::stmt(self.t, self.fail, self.none, self.n, sheet);
+        reach::whole(self.t, self.fail, self.n, sheet);
+        redundant::redundant(self.t, self.n, sheet);
+        loads::misplaced_load(self.t, &self.strings, self.n, sheet);
+        effect::no_effect(self.t, &self.strings, self.n, sheet);
+    }
 }
 
 // The whole pass over a valid file, f its facts: counted first, into no room, and written where there is room for all.
@@ -49,25 +54,22 @@ pub fn lint_valid(t: &[u8], f: Facts, out: &mut [u32], tally: [usize; CODES]) ->
     requires { judged t.now ≡ Ok f }
     ensures { record { answer = result; room = out.new } ≡ flow_call t.now out.old tally }
 {
-    let n = f.nodes;
-    let fail = number_of(t, b"fail");
-    let none = number_of(t, b"None");
-    let texts = strings(t);
-    let c = lint(t, fail, none, &texts, n, &mut out[..0], started(tally));
-    let records = c.count;
-    if out.len() / WIDTH < records {
-        return answer::refused(Refusal::AnswerRoom(records));
-    }
-    answer::listed(lint(t, fail, none, &texts, n, out, started(tally)))
+    let walks = Walks {
+        t,
+        n: f.nodes,
+        fail: number_of(t, b"fail"),
+        none: number_of(t, b"None"),
+        strings: strings(t),
+    };
+    answered(&walks, out, tally)
 }
 
 // The whole pass, on any bytes.
 pub fn flow(t: &[u8], out: &mut [u32], tally: [usize; CODES]) -> Answer
     ensures { record { answer = result; room = out.new } ≡ flow_call t.now out.old tally }
 {
-    let j = judge(t);
-    let Ok(f) = j else {
-        return answer::refused(answer::refusal_of(j));
-    };
-    lint_valid(t, f, out, tally)
+    match judge(t) {
+        Ok(f) => lint_valid(t, f, out, tally),
+        Err(why) => refused(why.into()),
+    }
 }

@@ -6,112 +6,93 @@ ghost use Rattle.tree.specs.code.Part.{Part, Subtree};
 ghost use Rattle.rules.specs.Record.{plainly, listed};
 ghost use Rattle.rules.specs.Visit.{has};
 ghost use Rattle.rules.specs.Flow.{tail, tail_part, redundant_part, redundant_walk, below_root};
-ghost use Rattle.answer.specs.Page.{writes, page};
+ghost use Rattle.answer.specs.Page.{Added};
 
 use crate::last::last_of;
-use answer::{Sheet, put_plainly};
+use crate::returns::is_valued;
+use answer::Sheet;
+use rules::Code;
 use tree::bytes::{kind_at, size_at};
-use tree::children::child_of;
+use tree::kinds::{Kind, Role};
 
 // 11 where node i is a continue that ends a loop's body.
-fn continues(t: &[u8], loops: bool, i: usize, out: &mut [u32], s: Sheet) -> Sheet
-    ensures { page out.new result ≡ writes (page out.old s) (listed loops (plainly 11 (node_head t.now i) ∷ []) []) }
+fn continues(t: &[u8], loops: bool, i: usize, sheet: &mut Sheet<'_>)
+    ensures { Added sheet.old sheet.new (listed loops (plainly 11 (node_head t.now i) ∷ []) []) }
 {
     if loops {
-        return put_plainly(t, out, s, 11, i);
+        sheet.put_plainly(t, Code::RedundantContinue as u32, i);
     }
-    s
 }
 
 // 10 where node i, a return, is bare and ends a def's body.
-fn bare(t: &[u8], loops: bool, i: usize, out: &mut [u32], s: Sheet) -> Sheet
+fn bare(t: &[u8], loops: bool, i: usize, sheet: &mut Sheet<'_>)
     requires { Subtree t.now i }
-    ensures { page out.new result ≡ writes (page out.old s) (listed (not loops && not (has 4 (forest_of t.now (i + 1) (i + size_at t.now i)))) (plainly 10 (node_head t.now i) ∷ []) []) }
+    ensures { Added sheet.old sheet.new (listed (not loops && not (has 4 (forest_of t.now (i + 1) (i + size_at t.now i)))) (plainly 10 (node_head t.now i) ∷ []) []) }
 {
-    if loops {
-        return s;
+    if !loops && !is_valued(t, i) {
+        sheet.put_plainly(t, Code::RedundantReturn as u32, i);
     }
-    let e = i + size_at(t, i);
-    if child_of(t, 4, i + 1, e) < e {
-        return s;
-    }
-    put_plainly(t, out, s, 10, i)
 }
 
 // The statement at node i is last.
 #[cycle(checking)]
-fn check(t: &[u8], loops: bool, i: usize, out: &mut [u32], s: Sheet) -> Sheet
+fn check(t: &[u8], loops: bool, i: usize, sheet: &mut Sheet<'_>)
     requires { Subtree t.now i }
-    ensures { page out.new result ≡ writes (page out.old s) (tail_part (node_head t.now i).kind loops (node_head t.now i) (forest_of t.now (i + 1) (i + size_at t.now i)) (λ v. tail loops v (forest_of t.now (i + 1) (i + size_at t.now i)))) }
+    ensures { Added sheet.old sheet.new (tail_part (node_head t.now i).kind loops (node_head t.now i) (forest_of t.now (i + 1) (i + size_at t.now i)) (λ v. tail loops v (forest_of t.now (i + 1) (i + size_at t.now i)))) }
 {
     let k = kind_at(t, i);
     let e = i + size_at(t, i);
-    if k == 2 {
-        return continues(t, loops, i, out, s);
+    if k == Kind::Continue as usize {
+        continues(t, loops, i, sheet);
+    } else if k == Kind::Return as usize {
+        bare(t, loops, i, sheet);
+    } else if k == Kind::Statements as usize {
+        last(t, loops, Role::Item as usize, i + 1, e, sheet);
+    } else if k == Kind::If as usize {
+        last(t, loops, Role::First as usize, i + 1, e, sheet);
+    } else if k == Kind::IfElse as usize {
+        sides(t, loops, i + 1, e, sheet);
     }
-    if k == 4 {
-        return bare(t, loops, i, out, s);
-    }
-    if k == 8 {
-        return last(t, loops, 0, i + 1, e, out, s);
-    }
-    if k == 9 {
-        return last(t, loops, 1, i + 1, e, out, s);
-    }
-    if k == 10 {
-        return sides(t, loops, i + 1, e, out, s);
-    }
-    s
 }
 
 #[cycle(checking)]
-fn sides(t: &[u8], loops: bool, i: usize, e: usize, out: &mut [u32], s: Sheet) -> Sheet
+fn sides(t: &[u8], loops: bool, i: usize, e: usize, sheet: &mut Sheet<'_>)
     requires { Part t.now i e × (i ≤ e) }
-    ensures { page out.new result ≡ writes (page out.old s) (tail loops 1 (forest_of t.now i e) ++ tail loops 2 (forest_of t.now i e)) }
+    ensures { Added sheet.old sheet.new (tail loops 1 (forest_of t.now i e) ++ tail loops 2 (forest_of t.now i e)) }
 {
-    let r = last(t, loops, 1, i, e, out, s);
-    last(t, loops, 2, i, e, out, r)
+    last(t, loops, Role::First as usize, i, e, sheet);
+    last(t, loops, Role::Second as usize, i, e, sheet);
 }
 
-// The last of the siblings from i up to e that has role r.
+// The last of the siblings from i up to e that has the role.
 #[cycle(checking)]
-fn last(t: &[u8], loops: bool, r: usize, i: usize, e: usize, out: &mut [u32], s: Sheet) -> Sheet
+fn last(t: &[u8], loops: bool, role: usize, i: usize, e: usize, sheet: &mut Sheet<'_>)
     requires { Part t.now i e × (i ≤ e) }
-    ensures { page out.new result ≡ writes (page out.old s) (tail loops r (forest_of t.now i e)) }
+    ensures { Added sheet.old sheet.new (tail loops role (forest_of t.now i e)) }
 {
-    let j = last_of(t, r, i, e);
-    if e <= j {
-        return s;
+    if let Some(j) = last_of(t, role, i, e) {
+        check(t, loops, j, sheet);
     }
-    check(t, loops, j, out, s)
 }
 
 // What node i's body ends with, where it is a for or a def.
-fn body(t: &[u8], i: usize, out: &mut [u32], s: Sheet) -> Sheet
+fn body(t: &[u8], i: usize, sheet: &mut Sheet<'_>)
     requires { Subtree t.now i }
-    ensures { page out.new result ≡ writes (page out.old s) (redundant_part (node_head t.now i).kind (forest_of t.now (i + 1) (i + size_at t.now i))) }
+    ensures { Added sheet.old sheet.new (redundant_part (node_head t.now i).kind (forest_of t.now (i + 1) (i + size_at t.now i))) }
 {
     let k = kind_at(t, i);
-    let e = i + size_at(t, i);
-    if k == 11 {
-        return last(t, true, 1, i + 1, e, out, s);
+    let loops = k == Kind::For as usize;
+    if loops || k == Kind::Def as usize {
+        last(t, loops, Role::First as usize, i + 1, i + size_at(t, i), sheet);
     }
-    if k == 12 {
-        return last(t, false, 1, i + 1, e, out, s);
-    }
-    s
 }
 
 // Everything below the root is looked at.
-pub(crate) fn redundant(t: &[u8], n: usize, out: &mut [u32], s: Sheet) -> Sheet
+pub(crate) fn redundant(t: &[u8], n: usize, sheet: &mut Sheet<'_>)
     requires { Part t.now 0 n × (size_at t.now 0 ≡ n) }
-    ensures { page out.new result ≡ writes (page out.old s) (redundant_walk (below_root (forest_of t.now 0 n))) }
+    ensures { Added sheet.old sheet.new (redundant_walk (below_root (forest_of t.now 0 n))) }
 {
-    let mut r = s;
-    let mut i = 1;
-    while i < n {
-        r = body(t, i, out, r);
-        i += 1;
+    for i in 1..n {
+        body(t, i, sheet);
     }
-    r
 }

@@ -1,11 +1,12 @@
 // JSON's text, written after what a writer holds: every function is total, as the writer's are.
 #![tactic(auto)]
 
-ghost use Rattle.std.specs.Prelude.{◌≡◌, ◌∷◌, ◌++◌, ◌+◌, ◌*◌, ◌≤◌, ◌<◌, length, drop, get_or};
+ghost use Rattle.std.specs.Prelude.{◌≡◌, ◌∷◌, ◌++◌, ◌+◌, ◌*◌, ◌<◌, length, suc, unwrap_or, option_map};
 ghost use Rattle.page.specs.Page.{Added};
 ghost use Rattle.json_text.specs.Text.{quoted as quoted_text};
-ghost use Rattle.json_text.specs.Utf8.{more as more_bytes, low as least, high as greatest, second as second_fits, tail as tail_fits, whole as whole_char, front as front_char};
-ghost use Rattle.json_text.specs.Escape.{must as must_escape, hex_digit as digit_of, hex as hex_of, six as six_of, ascii_byte as ascii_of, unit as unit_of, escape as escape_from, hexes as hexes_of, first as first_of, left as left_of};
+ghost use Rattle.json_text.specs.Utf8.{low as least, high as greatest, second as second_fits, tail as tail_fits, front as front_char};
+ghost use Rattle.json_text.specs.Escape.{must as must_escape, hex_digit as digit_of, hex as hex_of, six as six_of, ascii_byte as ascii_of};
+ghost use Rattle.json_text.specs.Escape.{escape as escape_from, hexes as hexes_of, first as first_of, left as left_of};
 
 use page::Writer;
 
@@ -13,7 +14,7 @@ fn hex_digit(d: u8) -> u8
     requires { d < 16 }
     ensures { result ≡ digit_of d }
 {
-    if d < 10 { 48 + d } else { 87 + d }
+    if d < 10 { b'0' + d } else { b'a' + (d - 10) }
 }
 
 // A byte in two digits.
@@ -28,20 +29,8 @@ fn hex(w: &mut Writer<'_>, b: u8)
 pub fn hexes(w: &mut Writer<'_>, s: &[u8])
     ensures { Added w.old w.new (2 * length s.now) (λ rest. hexes_of s.now ++ rest) }
 {
-    for b in s {
-        hex(w, *b);
-    }
-}
-
-fn more(a: u8) -> usize
-    ensures { result ≡ more_bytes a }
-{
-    match a {
-        0..=127 => 0,
-        194..=223 => 1,
-        224..=239 => 2,
-        240..=244 => 3,
-        _ => 4,
+    for &b in s {
+        hex(w, b);
     }
 }
 
@@ -49,9 +38,9 @@ fn low(a: u8) -> u8
     ensures { result ≡ least a }
 {
     match a {
-        224 => 160,
-        240 => 144,
-        _ => 128,
+        0xE0 => 0xA0,
+        0xF0 => 0x90,
+        _ => 0x80,
     }
 }
 
@@ -59,58 +48,43 @@ fn high(a: u8) -> u8
     ensures { result ≡ greatest a }
 {
     match a {
-        237 => 159,
-        244 => 143,
-        _ => 191,
+        0xED => 0x9F,
+        0xF4 => 0x8F,
+        _ => 0xBF,
     }
 }
 
 fn second(a: u8, b: u8) -> bool
     ensures { result ≡ second_fits a b }
 {
-    low(a) <= b && b <= high(a)
+    (low(a)..=high(a)).contains(&b)
 }
 
 fn tail(b: u8) -> bool
     ensures { result ≡ tail_fits b }
 {
-    matches!(b, 128..=191)
+    matches!(b, 0x80..=0xBF)
 }
 
-fn whole(k: usize, a: u8, b: u8, c: u8, d: u8) -> usize
-    ensures { result ≡ whole_char k a b c d }
+// How many bytes follow the first in the character of UTF-8 that the text begins with; None where none does.
+#[tactic(auto, using(crate::proofs::Leading::fronts))]
+fn front(s: &[u8]) -> Option<usize>
+    ensures { unwrap_or (option_map suc result) 0 ≡ front_char s.now }
 {
-    match k {
-        0 => 1,
-        1 if second(a, b) => 2,
-        2 if second(a, b) && tail(c) => 3,
-        3 if second(a, b) && tail(c) && tail(d) => 4,
-        _ => 0,
+    match s {
+        &[0x00..=0x7F, ..] => Some(0),
+        &[a @ 0xC2..=0xDF, b, ..] if second(a, b) => Some(1),
+        &[a @ 0xE0..=0xEF, b, c, ..] if second(a, b) && tail(c) => Some(2),
+        &[a @ 0xF0..=0xF4, b, c, d, ..] if second(a, b) && tail(c) && tail(d) => Some(3),
+        _ => None,
     }
-}
-
-// The byte k places after place i; 0 past the end.
-fn after(s: &[u8], i: usize, k: usize) -> u8
-    requires { i ≤ length s.now }
-    ensures { result ≡ get_or (drop i s.now) k 0 }
-{
-    s[i..].get(k).copied().unwrap_or(0)
-}
-
-// How many bytes the character of UTF-8 has that begins at place i; 0 where none does.
-fn front(s: &[u8], i: usize) -> usize
-    requires { i < length s.now }
-    ensures { result ≡ front_char (drop i s.now) }
-{
-    let a = s[i];
-    whole(more(a), a, after(s, i, 1), after(s, i, 2), after(s, i, 3))
 }
 
 // The characters that RFC 8259 has escaped.
 fn must(b: u8) -> bool
     ensures { result ≡ must_escape b }
 {
-    matches!(b, 0..=31 | b'"' | b'\\')
+    matches!(b, 0x00..=0x1F | b'"' | b'\\')
 }
 
 fn six(w: &mut Writer<'_>, b: u8)
@@ -130,30 +104,30 @@ fn ascii_byte(w: &mut Writer<'_>, b: u8)
     }
 }
 
-// What stands for byte b, with which a character of k bytes begins.
-fn unit(w: &mut Writer<'_>, k: usize, b: u8)
-    ensures { Added w.old w.new 6 (λ rest. unit_of k b ++ rest) }
-{
-    match k {
-        0 => w.raw(b"\xef\xbf\xbd"),
-        1 => ascii_byte(w, b),
-        _ => w.put(b),
-    }
-}
-
-// Byte i, where so many bytes of a character are still to be kept; how many there are after it.
-fn step(w: &mut Writer<'_>, s: &[u8], i: usize, left: usize) -> usize
-    requires { i < length s.now }
-    ensures written { Added w.old w.new 6 (λ rest. first_of left (drop i s.now) ++ rest) }
-    ensures after { result ≡ left_of left (drop i s.now) }
+// The first byte of s, where so many bytes of a character are still to be kept; how many there are after it.
+fn step(w: &mut Writer<'_>, s: &[u8], left: usize) -> usize
+    requires { 0 < length s.now }
+    ensures written { Added w.old w.new 6 (λ rest. first_of left s.now ++ rest) }
+    ensures after { result ≡ left_of left s.now }
 {
     if left > 0 {
-        w.put(s[i]);
+        w.put(s[0]);
         return left - 1;
     }
-    let k = front(s, i);
-    unit(w, k, s[i]);
-    k.saturating_sub(1)
+    match front(s) {
+        None => {
+            w.raw(b"\xef\xbf\xbd");
+            0
+        }
+        Some(0) => {
+            ascii_byte(w, s[0]);
+            0
+        }
+        Some(k) => {
+            w.put(s[0]);
+            k
+        }
+    }
 }
 
 // A string's text, without the marks around it: of any bytes.
@@ -162,7 +136,7 @@ pub fn escaped(w: &mut Writer<'_>, s: &[u8])
 {
     let mut left = 0;
     for i in 0..s.len() {
-        left = step(w, s, i, left);
+        left = step(w, &s[i..], left);
     }
 }
 

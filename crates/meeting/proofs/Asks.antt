@@ -1,179 +1,159 @@
--- What the numbers of asks and of rows stand for, and what the table of rows holds. Assumes nothing.
-use Prim.Native.Nat.{ℕ, zero, suc, ◌+◌, ◌-◌, ◌≤◌, ◌<◌}
+-- What the asks stand for, and what a node of each kind is asked. Assumes nothing.
+use Prim.Native.Nat.{ℕ, ◌+◌, ◌≤◌, ◌<◌}
 use native.Mathlib.Omega.{arith}
-use native.Mathlib.Decide.{ℕ_discrete as dec_eq, dec_lt}
-use mathlib.Core.Path.{◌≡◌, refl, sym, ap, subst, ◌∙◌}
-use mathlib.Core.Bool.{true, false, not, ◌&&◌}
+use native.Mathlib.Decide.{ℕ_discrete as dec_eq}
+use mathlib.Core.Path.{◌≡◌, refl, sym, ◌∙◌}
+use mathlib.Core.Bool.{Bool, true, false, not, ◌&&◌, ◌||◌}
 use mathlib.Core.List.{List, [], ◌∷◌}
+use mathlib.Core.Logic.{◌⊎◌, inl, inr}
 use lib.Dec.{eqb, ltb, T, ltb→lt, eqb→eq, not_T}
-use lib.ListN.{get_or}
-use borrow.Author.Tests.{lt-ltb, le-leb, lt-leb, ne_eqb}
-use Rattle.rules.specs.Visit.{look}
+use borrow.Author.Tests.{eq-eqb, ne_eqb}
+use denote.Enum.Declared.{tag_of}
+use Rattle.tree.specs.contracts.kinds.Role.{the_type}
+use Rattle.tree.specs.declared.kinds.Role.{Role}
+use Rattle.tree.specs.declared.kinds.Role.TheVariants.{Item, First, Second, «Type», Expression, Target, Name, Function, Key}
+use Rattle.tree.specs.Forest.{Head, Forest}
 use Rattle.rules.specs.Order.{Form, forms, nothing, bindings, of_role, every}
-use Rattle.rules.proofs.Bools.{and_left, and_right, both}
+use Rattle.rules.proofs.Bools.{and_left, and_right, both, or_case}
 use Rattle.rules.proofs.Look.{all_so, unlisted, look_none}
-use Rattle.meeting.specs.Asked.{Ask, ask_rows, visits, names, no_ask, ask_of, wanted, after, form_row, bind_row, row, plan}
+use Rattle.meeting.specs.Asked.{Ask, visits, names, no_ask, ask_of, asked, asked_as, wanted, after, form_row, bind_row, row, below}
+use Rattle.meeting.specs.Meant.{role_number, number, meant}
+use Rattle.meeting.specs.declared.walk.Ask.{Ask as Asking}
+use Rattle.meeting.specs.declared.walk.Ask.TheVariants.{Of, Every, FirstOver, FirstTarget, Clauses, Names, Nothing, Itself}
 
--- four rows, none of which is of the number k
-unlisted_four : (k m n o p : ℕ) → (k ≡ m → ⊥) → (k ≡ n → ⊥) → (k ≡ o → ⊥) → (k ≡ p → ⊥)
-    → T (not (eqb k m) && (not (eqb k n) && (not (eqb k o) && (not (eqb k p) && true))))
-unlisted_four k m n o p a b c d =
-    rw (ne_eqb k m a, ne_eqb k n b, ne_eqb k o c, ne_eqb k p d) tt
+-- ---- roles
 
--- ---- the asks by number
+pub tag_is : (r : Role) → tag_of the_type r ≡ role_number r
+tag_is Item = refl
+tag_is First = refl
+tag_is Second = refl
+tag_is «Type» = refl
+tag_is Expression = refl
+tag_is Target = refl
+tag_is Name = refl
+tag_is Function = refl
+tag_is Key = refl
 
-ask_names : (a : ℕ) → 16 ≤ a → ask_of a ≡ names (a - 16)
-unfolding ask_of
-ask_names a h = rw (le-leb 16 a h)
-
-ask_nothing : (a : ℕ) → 13 ≤ a → a < 16 → ask_of a ≡ no_ask
-unfolding ask_of
-ask_nothing a h l = rw (lt-leb 16 a l, le-leb 13 a h)
-
-ask_role : (a : ℕ) → a < 9 → ask_of a ≡ visits (of_role a)
-unfolding ask_of
-ask_role a l =
-    rw (lt-leb 16 a (omega arith), lt-leb 13 a (omega arith))
-    (look_none a ask_rows (visits (of_role a)) (unlisted_four a 9 10 11 12 (λ e. omega arith) (λ e. omega arith) (λ e. omega arith) (λ e. omega arith)))
-
--- what holds of the asks for a comprehension's parts
-ask_part : (Q : ℕ → Type 0) → Q 10 → Q 11 → Q 12 → (a : ℕ) → 10 ≤ a → a < 13 → Q a
-ask_part Q x y z a h l = go (dec_eq a 10) (dec_eq a 11)
+eqb_swap : (a b : ℕ) → eqb a b ≡ eqb b a
+eqb_swap a b = go (dec_eq a b)
   where
-    go : Dec (a ≡ 10) → Dec (a ≡ 11) → Q a
-    go (yes e) d = subst Q (sym e) x
-    go (no n) (yes e) = subst Q (sym e) y
-    go (no n) (no m) = let e : 12 ≡ a = omega arith in subst Q e z
+    go : Dec (a ≡ b) → eqb a b ≡ eqb b a
+    go (yes e) = eq-eqb a b e ∙ sym (eq-eqb b a (sym e))
+    go (no n) = ne_eqb a b n ∙ sym (ne_eqb b a (λ e. n (sym e)))
 
--- what holds of those of a role and of every one
-ask_some : (Q : Ask → Type 0) → ((r : ℕ) → Q (visits (of_role r))) → Q (visits every) → (a : ℕ) → a < 10 → Q (ask_of a)
-unfolding ask_of
-ask_some Q x y a h = go (dec_eq a 9)
-  where
-    go : Dec (a ≡ 9) → Q (ask_of a)
-    go (yes e) = rw e y
-    go (no n) = rw (ask_role a (omega arith)) (x a)
-
--- what holds of names and of nothing
-ask_rest : (Q : Ask → Type 0) → ((r : ℕ) → Q (names r)) → Q no_ask → (a : ℕ) → 13 ≤ a → Q (ask_of a)
-ask_rest Q x y a h = go (dec_lt a 16)
-  where
-    go : Dec (a < 16) → Q (ask_of a)
-    go (yes l) = rw (ask_nothing a h l) y
-    go (no n) = rw (ask_names a (omega arith)) (x (a - 16))
-
-module _ (a role : ℕ) where
-  pub wants_every : a ≡ 9 → true ≡ wanted (ask_of a) role
-  unfolding ask_of wanted
-  wants_every e = rw e
-
-  pub wants_names : 16 ≤ a → eqb (a - 16) role ≡ wanted (ask_of a) role
+module _ (a : Asking) (role : ℕ) where
+  pub wants_role : (r : Role) → (a ≡ Of r) ⊎ (a ≡ Names r) → eqb role (tag_of the_type r) ≡ wanted (meant a) role
   unfolding wanted
-  wants_names h = rw (ask_names a h)
+  wants_role r (inl e) = rw (e, tag_is r) (eqb_swap role (role_number r))
+  wants_role r (inr e) = rw (e, tag_is r) (eqb_swap role (role_number r))
 
-  pub wants_nothing : 13 ≤ a → a < 16 → false ≡ wanted (ask_of a) role
+  pub wants_item : (a ≡ FirstOver) ⊎ ((a ≡ FirstTarget) ⊎ (a ≡ Clauses)) → eqb role 0 ≡ wanted (meant a) role
   unfolding wanted
-  wants_nothing h l = rw (ask_nothing a h l)
+  wants_item (inl e) = rw e (eqb_swap role 0)
+  wants_item (inr (inl e)) = rw e (eqb_swap role 0)
+  wants_item (inr (inr e)) = rw e (eqb_swap role 0)
 
-  pub wants_part : 10 ≤ a → a < 13 → eqb 0 role ≡ wanted (ask_of a) role
-  unfolding ask_of wanted
-  wants_part h l = ask_part (λ b. eqb 0 role ≡ wanted (ask_of b) role) refl refl refl a h l
-
-  pub wants_role : a < 10 → (a ≡ 9 → ⊥) → eqb a role ≡ wanted (ask_of a) role
+  pub wants_none : (a ≡ Nothing) ⊎ (a ≡ Itself) → false ≡ wanted (meant a) role
   unfolding wanted
-  wants_role l n = rw (ask_role a (omega arith))
+  wants_none (inl e) = rw e
+  wants_none (inr e) = rw e
 
-  pub after_other : (role ≡ 0 → ⊥) → ask_of a ≡ after (ask_of a) (eqb 0 role)
+  pub after_other : (role ≡ 0 → ⊥) → meant a ≡ after (meant a) (eqb 0 role)
   unfolding after
   after_other n = rw (ne_eqb 0 role (λ e. n (sym e)))
 
-  pub after_over : role ≡ 0 → a ≡ 10 → ask_of 13 ≡ after (ask_of a) (eqb 0 role)
-  unfolding ask_of after
-  after_over e d = rw (e, d)
+-- an ask that no sibling changes
+pub after_same : (a : Asking) (role : ℕ) → (a ≡ FirstOver → ⊥) → (a ≡ FirstTarget → ⊥) → meant a ≡ after (meant a) (eqb 0 role)
+unfolding after
+after_same a role n m = go a (eqb 0 role) n m
+  where
+    go : (a : Asking) (b : Bool) → (a ≡ FirstOver → ⊥) → (a ≡ FirstTarget → ⊥) → meant a ≡ after (meant a) b
+    go a false n m = refl
+    go (Of r) true n m = refl
+    go Every true n m = refl
+    go FirstOver true n m = absurd (n refl)
+    go FirstTarget true n m = absurd (m refl)
+    go Clauses true n m = refl
+    go (Names r) true n m = refl
+    go Nothing true n m = refl
+    go Itself true n m = refl
 
-  pub after_bound : role ≡ 0 → a ≡ 11 → ask_of 12 ≡ after (ask_of a) (eqb 0 role)
-  unfolding ask_of after
-  after_bound e d = rw (e, d)
+-- ---- the rows by kind
 
-  pub after_same : role ≡ 0 → (a ≡ 10 → ⊥) → (a ≡ 11 → ⊥) → ask_of a ≡ after (ask_of a) (eqb 0 role)
-  unfolding ask_of after
-  after_same e n m = rw e (go (dec_lt a 10) (dec_lt a 13))
-    where
-      go : Dec (a < 10) → Dec (a < 13) → ask_of a ≡ after (ask_of a) true
-      go (yes l) d = ask_some (λ q. q ≡ after q true) (λ r. refl) refl a l
-      go (no x) (yes l) = let z : a ≡ 12 = omega arith in rw z
-      go (no x) (no y) = ask_rest (λ q. q ≡ after q true) (λ r. refl) refl a (omega arith)
+pub row_at : (q : Ask) (k m : ℕ) {ps : List ℕ} → k ≡ m → row q m ≡ ps → ps ≡ row q k
+row_at q k m e f = sym (rw e f)
 
--- ---- the rows by number
+-- of three kinds
+pub row_three : (q : Ask) (k m n o : ℕ) {ps : List ℕ} → (k ≡ m) ⊎ ((k ≡ n) ⊎ (k ≡ o)) → row q m ≡ ps → row q n ≡ ps → row q o ≡ ps → ps ≡ row q k
+row_three q k m n o (inl x) e f g = row_at q k m x e
+row_three q k m n o (inr (inl x)) e f g = row_at q k n x f
+row_three q k m n o (inr (inr x)) e f g = row_at q k o x g
 
--- a table of rows up to 47 has none from 48 on
-unlisted_late : {A : Type 0} (k : ℕ) (es : List (ℕ × A)) → T (all_so (λ n a. ltb n 48) es) → 48 ≤ k → T (unlisted k es)
-unlisted_late k [] t h = tt
-unlisted_late k (e ∷ es) t h =
-    let l : e.0 < 48 = ltb→lt e.0 48 (and_left (ltb e.0 48) (all_so (λ n a. ltb n 48) es) t) in
-    both (not (eqb k e.0)) (unlisted k es) (not_T (eqb k e.0) (λ v. let z : k ≡ e.0 = eqb→eq k e.0 v in omega arith))
-    (unlisted_late k es (and_right (ltb e.0 48) (all_so (λ n a. ltb n 48) es) t) h)
+-- of two, one after the other
+pub row_pair : (q : Ask) (k m : ℕ) {ps : List ℕ} → m ≤ k → k ≤ m + 1 → row q m ≡ ps → row q (m + 1) ≡ ps → ps ≡ row q k
+row_pair q k m {ps} l h e f = go (dec_eq k m)
+  where
+    go : Dec (k ≡ m) → ps ≡ row q k
+    go (yes x) = row_at q k m x e
+    go (no n) = row_at q k (m + 1) (omega arith) f
 
--- a kind from 48 on is plain
-late_plain : (k : ℕ) → 48 ≤ k → look k forms Form.plain ≡ Form.plain
-late_plain k h = look_none k forms Form.plain (unlisted_late k forms tt h)
+-- a table that has no rows from a to b
+unlisted_in : {A : Type 0} (k a b : ℕ) (es : List (ℕ × A)) → T (all_so (λ n x. ltb n a || ltb b n) es) → a ≤ k → k ≤ b → T (unlisted k es)
+unlisted_in k a b [] t l h = tt
+unlisted_in k a b (e ∷ es) t l h =
+    let o : T (ltb e.0 a || ltb b e.0) = and_left (ltb e.0 a || ltb b e.0) (all_so (λ n x. ltb n a || ltb b n) es) t in
+    both (not (eqb k e.0)) (unlisted k es) (not_T (eqb k e.0) (λ v. out (eqb→eq k e.0 v) o))
+    (unlisted_in k a b es (and_right (ltb e.0 a || ltb b e.0) (all_so (λ n x. ltb n a || ltb b n) es) t) l h)
+  where
+    out : k ≡ e.0 → T (ltb e.0 a || ltb b e.0) → ⊥
+    out z o =
+        or_case (ltb e.0 a) (ltb b e.0) (λ u. let x : e.0 < a = ltb→lt e.0 a u in omega arith) (λ u. let x : b < e.0 = ltb→lt b e.0 u in omega arith) o
 
-module _ (a kind : ℕ) where
-  form_rows : a < 10 → row (ask_of a) kind ≡ form_row (look kind forms Form.plain)
+pub plain_in : (k a b : ℕ) → T (all_so (λ n x. ltb n a || ltb b n) forms) → a ≤ k → k ≤ b → 9 ∷ [] ≡ row (visits every) k
+unfolding row form_row
+plain_in k a b t l h = rw (look_none k forms Form.plain (unlisted_in k a b forms t l h))
+
+pub binds_none : (k : ℕ) → (k ≡ 40 → ⊥) → (k ≡ 41 → ⊥) → (k ≡ 43 → ⊥) → (k ≡ 47 → ⊥) → [] ≡ row no_ask k
+unfolding row bind_row
+binds_none k x y z u = rw (look_none k bindings nothing unlisted_four)
+  where
+    unlisted_four : T (not (eqb k 40) && (not (eqb k 41) && (not (eqb k 43) && (not (eqb k 47) && true))))
+    unlisted_four = rw (ne_eqb k 40 x, ne_eqb k 41 y, ne_eqb k 43 z, ne_eqb k 47 u) tt
+
+-- every visit of a node asks what a visit of every one does; names and nothing ask what nothing does
+module _ (a : Asking) (k : ℕ) {ps : List ℕ} where
+  pub row_visits : ((r : Role) × (a ≡ Of r)) ⊎ (a ≡ Every) → ps ≡ row (visits every) k → ps ≡ row (meant a) k
   unfolding row
-  form_rows h = ask_some (λ q. row q kind ≡ form_row (look kind forms Form.plain)) (λ r. refl) refl a h
+  row_visits (inl e) h = rw e.1 h
+  row_visits (inr e) h = rw e h
 
-  bind_rows : 13 ≤ a → row (ask_of a) kind ≡ bind_row (look kind bindings nothing)
+  pub row_names : ((r : Role) × (a ≡ Names r)) ⊎ ((a ≡ Nothing) ⊎ (a ≡ Itself)) → ps ≡ row no_ask k → ps ≡ row (meant a) k
   unfolding row
-  bind_rows h = ask_rest (λ q. row q kind ≡ bind_row (look kind bindings nothing)) (λ r. refl) refl a h
+  row_names (inl e) h = rw e.1 h
+  row_names (inr (inl e)) h = rw e h
+  row_names (inr (inr e)) h = rw e h
 
-  pub row_kind : a < 10 → kind < 48 → (kind < 55) × (plan kind ≡ row (ask_of a) kind)
-  unfolding plan
-  row_kind h l = (omega arith, rw (lt-ltb kind 49 (omega arith)) (sym (form_rows h)))
+-- ---- by number
 
-  pub row_late : a < 10 → 48 ≤ kind → (48 < 55) × (plan 48 ≡ row (ask_of a) kind)
-  unfolding plan form_row
-  row_late h l = (omega arith, sym (form_rows h ∙ ap form_row (late_plain kind l)))
+role_all : (Q : ℕ → Type 0) → Q 0 → Q 1 → Q 2 → Q 3 → Q 4 → Q 5 → Q 6 → Q 7 → Q 8 → (r : Role) → Q (role_number r)
+role_all Q a b c d e f g h i Item = a
+role_all Q a b c d e f g h i First = b
+role_all Q a b c d e f g h i Second = c
+role_all Q a b c d e f g h i «Type» = d
+role_all Q a b c d e f g h i Expression = e
+role_all Q a b c d e f g h i Target = f
+role_all Q a b c d e f g h i Name = g
+role_all Q a b c d e f g h i Function = h
+role_all Q a b c d e f g h i Key = i
 
-  pub row_part : 10 ≤ a → a < 13 → (a + 42 < 55) × (plan (a + 42) ≡ row (ask_of a) kind)
-  unfolding plan row ask_of
-  row_part h l = (omega arith, ask_part (λ b. plan (b + 42) ≡ row (ask_of b) kind) refl refl refl a h l)
-
-  pub row_name : (m r : ℕ) → kind ≡ m → r < 55 → bind_row (look m bindings nothing) ≡ plan r → 13 ≤ a → (r < 55) × (plan r ≡ row (ask_of a) kind)
-  row_name m r e l p h = (l, sym p ∙ ap (λ (x : ℕ). bind_row (look x bindings nothing)) (sym e) ∙ sym (bind_rows h))
-
-  pub row_nothing : (kind ≡ 41 → ⊥) → (kind ≡ 40 → ⊥) → (kind ≡ 43 → ⊥) → (kind ≡ 47 → ⊥) → 13 ≤ a → (49 < 55) × (plan 49 ≡ row (ask_of a) kind)
-  unfolding plan
-  row_nothing x y z u h =
-      (omega arith, sym (bind_rows h ∙ ap bind_row (look_none kind bindings nothing (unlisted_four kind 40 41 43 47 y x z u))))
-
--- ---- the table of rows
-
--- the five places of a row; 13 past its end
-unfoldable pub five : List ℕ → List ℕ
-five p = get_or p 0 13 ∷ get_or p 1 13 ∷ get_or p 2 13 ∷ get_or p 3 13 ∷ get_or p 4 13 ∷ []
-
--- n rows, from row r on
-unfoldable pub rows : ℕ → ℕ → List (List ℕ)
-rows zero r = []
-rows (suc n) r = five (plan r) ∷ rows n (suc r)
-
-in_five : (p : List ℕ) (k : ℕ) → k < 5 → get_or (five p) k 0 ≡ get_or p k 13
-unfolding five
-in_five p zero h = refl
-in_five p (suc zero) h = refl
-in_five p (suc (suc zero)) h = refl
-in_five p (suc (suc (suc zero))) h = refl
-in_five p (suc (suc (suc (suc zero)))) h = refl
-in_five p (suc (suc (suc (suc (suc k))))) h = absurd (omega arith)
-
-in_rows : (n r j : ℕ) (d : List ℕ) → j < n → get_or (rows n r) j d ≡ five (plan (r + j))
-unfolding rows
-in_rows zero r j d h = absurd (omega arith)
-in_rows (suc n) r zero d h = let s : r + 0 ≡ r = omega arith in rw s
-in_rows (suc n) r (suc j) d h = let s : r + suc j ≡ suc r + j = omega arith in rw s (in_rows n (suc r) j d (omega arith))
-
-pub in_table : (d : List ℕ) (r k : ℕ) → r < 55 → k < 5 → get_or (get_or (rows 55 0) r d) k 0 ≡ get_or (plan r) k 13
-in_table d r k h l =
-    let s : 0 + r ≡ r = omega arith in
-    rw (in_rows 55 0 r d h, s) (in_five (plan r) k l)
+-- what a number of a row has met, but for the node itself
+pub below_is : (a : Asking) (h : Head) (k : Forest) → (a ≡ Itself → ⊥) → below (number a) h k ≡ asked_as (meant a) k
+unfolding below asked ask_of asked_as
+below_is (Of r) h k n = role_all (λ m. below m h k ≡ asked_as (visits (of_role m)) k) refl refl refl refl refl refl refl refl refl r
+below_is Every h k n = refl
+below_is FirstOver h k n = refl
+below_is FirstTarget h k n = refl
+below_is Clauses h k n = refl
+below_is (Names r) h k n = role_all (λ m. below (16 + m) h k ≡ asked_as (names m) k) refl refl refl refl refl refl refl refl refl r
+below_is Nothing h k n = refl
+below_is Itself h k n = absurd (n refl)

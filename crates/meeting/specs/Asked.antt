@@ -1,11 +1,11 @@
 -- The nodes that the names walk meets among some siblings, by what is asked of them: the walk of 01's order (rules' Order), told by
 -- rows of numbers. Assumes nothing.
-use Rattle.std.specs.Prelude.{ℕ, ◌+◌, ◌-◌, Bool, true, false, List, [], ◌∷◌, ◌++◌, eqb, leb, ltb}
+use Rattle.std.specs.Prelude.{ℕ, ◌+◌, ◌-◌, Bool, true, false, List, [], ◌∷◌, ◌++◌, eqb, leb}
 use Rattle.tree.specs.Bytes.{pick, size_at}
 use Rattle.tree.specs.Forest.{Head, Forest, node_head, forest_of}
 use Rattle.rules.specs.Visit.{look}
 use Rattle.rules.specs.Names.{met}
-use Rattle.rules.specs.Order.{Form, forms, Bind, one, several, nothing, bindings, Sort, Want, of_role, every, first_over, first_bound, clauses, binds, takes}
+use Rattle.rules.specs.Order.{Form, forms, Bind, one, several, nothing, bindings, Want, of_role, every, first_over, first_bound, clauses, binds, takes}
 
 -- of siblings: a visit of those wanted; the names that those of a role bind; nothing
 pub data Ask : Type 0 where
@@ -90,15 +90,6 @@ row (visits first_bound) kind = 5 ∷ 21 ∷ []
 row (visits clauses) kind = 4 ∷ 5 ∷ 21 ∷ []
 row (names r) kind = bind_row (look kind bindings nothing)
 row no_ask kind = bind_row (look kind bindings nothing)
-
--- those that are no kind's
-abbrev pub plan_rows : List (ℕ × List ℕ)
-plan_rows = (49, bind_row nothing) ∷ (50, bind_row (one Sort.assign)) ∷ (51, bind_row several) ∷ (52, row (visits first_over) 0)
-    ∷ (53, row (visits first_bound) 0) ∷ (54, row (visits clauses) 0) ∷ []
-
--- the rows by number: up to 48 those of the kinds
-unfoldable pub plan : ℕ → List ℕ
-plan r = pick (ltb r 49) (form_row (look r forms Form.plain)) (look r plan_rows [])
 
 -- what the walk meets by one number of a row: the node itself, or what is asked of its children
 unfoldable pub below : ℕ → Head → Forest → List Head

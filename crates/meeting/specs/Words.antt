@@ -1,6 +1,6 @@
 -- The lent words after each step of the code. Word k below n is a place: the number of a node. Places whose nodes share span and name are
 -- in one bucket, a chain of places. Assumes nothing.
-use Rattle.std.specs.Prelude.{ℕ, zero, suc, ◌+◌, ◌*◌, ◌-◌, ◌%◌, true, false, List, [], ◌∷◌, eqb, get_or, set}
+use Rattle.std.specs.Prelude.{ℕ, Option, None, Some, zero, suc, ◌+◌, ◌*◌, ◌-◌, ◌%◌, true, false, List, [], ◌∷◌, eqb, get_or, set}
 use Rattle.tree.specs.Bytes.{pick, begin_at, end_at, value_at}
 use Rattle.tree.specs.Forest.{Head, node_spot, forest_of}
 use Rattle.rules.specs.Names.{same}
@@ -55,6 +55,11 @@ along (suc left) t w q i =
       | true ↦ w
       | false ↦ along left t (touched t w (q - 1) i) (get_or (touched t w (q - 1) i) (befores + (q - 1)) 0) i
     ]
+
+-- the word that tells a place: 1 + its number; 0, where there is none
+unfoldable pub word_of : Option ℕ → ℕ
+word_of None = 0
+word_of (Some k) = k + 1
 
 -- node i is met
 unfoldable pub meet_words : List ℕ → ℕ → List ℕ → ℕ → List ℕ

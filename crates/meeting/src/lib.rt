@@ -1,13 +1,15 @@
 // 02, §4: of nodes that share span and name, the one that the names walk meets first.
 #![tactic(auto)]
 
-ghost use Rattle.std.specs.Prelude.{◌≡◌, ◌<◌, ◌≤◌};
+ghost use Rattle.std.specs.Prelude.{◌≡◌, ◌<◌, ◌≤◌, get_or, IfSome};
 ghost use Rattle.tree.specs.code.Part.{Part};
-ghost use Rattle.meeting.specs.Words.{bucket_of, emptied as emptiedWords, link_words, linked as linkedWords, touched, along as alongWords, meet_words, first_words};
+ghost use Rattle.meeting.specs.Words.{bucket_of, emptied as emptiedWords, link_words, linked as linkedWords, touched, meet_words, first_words, word_of};
 
 use scope::table::{same_spot, store, word_at};
 use tree::bytes::{begin_at, end_at, value_at};
+use tree::kinds::Role;
 
+mod kinds;
 mod walk;
 
 // By bucket: 1 + its last place. By place: 1 + the place before it in its bucket; whether its node is met.
@@ -27,10 +29,8 @@ fn bucket(t: &[u8], i: usize) -> usize
 fn emptied(w: &mut [u16])
     ensures { w.new ≡ emptiedWords w.old 1024 }
 {
-    let mut k = LAST;
-    while k < BEFORE {
+    for k in LAST..BEFORE {
         store(w, k, 0);
-        k += 1;
     }
 }
 
@@ -49,10 +49,8 @@ fn linked(t: &[u8], w: &mut [u16], n: usize)
     requires { n ≤ 1024 }
     ensures { w.new ≡ linkedWords t.now w.old n }
 {
-    let mut k = 0;
-    while k < n {
+    for k in 0..n {
         link(t, w, k);
-        k += 1;
     }
 }
 
@@ -61,39 +59,31 @@ fn touch(t: &[u8], w: &mut [u16], k: usize, i: usize)
     requires { (k < 65536) × (i < 65536) }
     ensures { w.new ≡ touched t.now w.old k i }
 {
-    if word_at(w, MET + k) != 0 {
-        return;
-    }
-    if same_spot(t, word_at(w, k), i) {
+    if word_at(w, MET + k) == 0 && same_spot(t, word_at(w, k), i) {
         store(w, k, i);
         store(w, MET + k, 1);
     }
 }
 
-// The places of a bucket from place p - 1 on, at most n of them; p is 0 where there is none.
-fn along(t: &[u8], w: &mut [u16], n: usize, p: usize, i: usize)
-    requires { (p < 65536) × (i < 65536) }
-    ensures { w.new ≡ alongWords n t.now w.old p i }
+// The place that word k tells, if any.
+fn place_at(w: &[u16], k: usize) -> Option<usize>
+    ensures tells { word_of result ≡ get_or w.now k 0 }
+    ensures low { IfSome result (λ p. p < 65535) }
 {
-    let mut q = p;
-    let mut left = n;
-    while 0 < left {
-        if q == 0 {
-            return;
-        }
-        touch(t, w, q - 1, i);
-        q = word_at(w, BEFORE + (q - 1));
-        left -= 1;
-    }
+    word_at(w, k).checked_sub(1)
 }
 
-// Node i is met.
+// Node i is met: at most n places are in its bucket.
 pub(crate) fn meet(t: &[u8], w: &mut [u16], n: usize, i: usize)
     requires { i < 65536 }
     ensures { w.new ≡ meet_words t.now n w.old i }
 {
-    let p = word_at(w, LAST + bucket(t, i));
-    along(t, w, n, p, i);
+    let mut place = place_at(w, LAST + bucket(t, i));
+    for _ in 0..n {
+        let Some(k) = place else { return };
+        touch(t, w, k, i);
+        place = place_at(w, BEFORE + k);
+    }
 }
 
 // Each of the first n words, a node, becomes the first of its span and name that the names walk meets; it stays where that meets none.
@@ -103,5 +93,5 @@ pub fn first_met(t: &[u8], nodes: usize, w: &mut [u16], n: usize)
 {
     emptied(w);
     linked(t, w, n);
-    walk::visit(t, 0, 0, nodes, n, w);
+    walk::visit(t, walk::Ask::Of(Role::Item), 0, nodes, n, w);
 }

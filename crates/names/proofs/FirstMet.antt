@@ -28,7 +28,7 @@ use Rattle.scope.specs.State.{warning_in, out_of}
 use Rattle.meeting.specs.Asked.{never}
 use Rattle.meeting.specs.Words.{first_words}
 use Rattle.meeting.proofs.First.{first_placed, first_kept, first_length, first_found, met_any}
-use Rattle.names.specs.Walk.{module_of, visit_of, want_of}
+use Rattle.names.specs.Walk.{module_of, visit_of}
 use Rattle.names.specs.Records.{record_in, records_of, met_words}
 use Rattle.rules.proofs.Each.{each_right}
 
@@ -59,7 +59,7 @@ as_told t s hs c o = rw (o.0, o.1)
 
 module _ (t : List ℕ) (n : ℕ) (part : Part t 0 n) (w : List ℕ) (r : ℕ) (few : r ≤ 1024) (long : work_words ≤ length w) where
   nodes_met : met (takes never (of_role 0) (forest_of t 0 n)) ≡ (met (module_of t n))
-  unfolding module_of visit_of want_of
+  unfolding module_of visit_of
   nodes_met = met_any _ _ (of_role 0) (forest_of t 0 n)
 
   all_own : Each (Own t n) (met (module_of t n))

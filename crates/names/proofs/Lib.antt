@@ -10,3 +10,4 @@ pub mod Whole
 pub mod Telling
 pub mod FirstMet
 pub mod Promised
+pub mod Roles

@@ -6,19 +6,23 @@ use native.Mathlib.Decide.{ℕ_discrete}
 use mathlib.Core.Path.{◌≡◌, refl, sym, ap, ◌∙◌}
 use mathlib.Core.Bool.{Bool, true, false, cond}
 use mathlib.Core.List.{List, [], ◌∷◌}
+use Rattle.std.specs.Prelude.{Some, None}
 use lib.Dec.{eqb}
 use borrow.Author.Tests.{ne_eqb}
 use Rattle.tree.specs.Bytes.{pick, kind_at, role_at, size_at}
 use Rattle.tree.specs.Forest.{node_head, forest_of}
 use Rattle.tree.specs.code.Part.{Part}
-use Rattle.tree.specs.code.Find.{child_of, kid_of}
+use Rattle.tree.specs.code.Find.{child_of}
 use Rattle.tree.proofs.Laws.{forest_none, forest_node, kids, first, sized, later}
 use Rattle.tree.proofs.Find.{child_end, child_here, child_next, child_ge}
 use Rattle.tree.proofs.Find as find
+use Rattle.tree.proofs.FirstChild.{child_some, child_none}
 use Rattle.rules.specs.Visit.{look, has}
-use Rattle.rules.specs.Order.{skip, ◌⨟◌, use_of, set_of, stop, branch, loop, scope, breaks, bare, valued, fails, Form, forms, broken_by, Sort, Bind, bindings, bind_part, binds, use_part, uses, part, picked, step, takes, Want, first_over, first_bound, clauses}
+use Rattle.rules.specs.Order.{skip, ◌⨟◌, use_of, set_of, stop, branch, loop, scope, breaks, bare, valued, fails, Form, forms, broken_by, Sort, Bind, bindings, bind_part, binds, use_part, uses, part, picked, step, takes, Want, of_role, every, first_over, first_bound, clauses}
 use Rattle.scope.specs.State.{sort_of}
-use Rattle.names.specs.Walk.{named_by, kids_of, want_of, wanted_of, names_of, visit_of, down_of, node_of, name_node, names_in, node_bind, node_use, Node, clauses_of, over_of, bound_of, fail_of}
+use Rattle.names.specs.Walk.{named_by, kids_of, number, want_of, wanted_of, names_of, visit_of, down_of, node_of, name_node, names_in, node_bind, node_use, Node, clauses_of, first_clause, over_of, bound_of, fail_of}
+use Rattle.names.specs.declared.walk.Wanted.{Wanted}
+use Rattle.names.specs.declared.walk.Wanted.TheVariants.{All, Of}
 
 -- the parts of a node
 pub kids_held : {t : List ℕ} {c d : ℕ} → Node t c d → Part t (c + 1) (c + size_at t c)
@@ -81,16 +85,11 @@ module _ (t : List ℕ) (f : ℕ) where
   unfolding visit_of
   visit_end v i e h = ap (takes (named_by f) v) (forest_none t i e h)
 
-  pub visit_next : (r : ℕ) {i e : ℕ} → Part t i e → i < e
-      → visit_of t f (want_of r) i e ≡ picked (wanted_of t r i) (node_of t f i) (visit_of t f (want_of r) (i + size_at t i) e)
-  unfolding visit_of node_of down_of kids_of node_head want_of wanted_of
-  visit_next r {i} {e} p lt = ap (takes (named_by f) (want_of r)) (forest_node p lt) ∙ asked (eqb r 9) refl
-    where
-      asked : (b : Bool) → eqb r 9 ≡ b
-          → step (named_by f) (want_of r) (node_head t i) (kids_of t i) (λ v. takes (named_by f) v (kids_of t i)) (λ v. takes (named_by f) v (forest_of t (i + size_at t i) e))
-          ≡ picked (wanted_of t r i) (node_of t f i) (visit_of t f (want_of r) (i + size_at t i) e)
-      asked true q = rw q
-      asked false q = rw q
+  pub visit_next : (a : Wanted) {i e : ℕ} → Part t i e → i < e
+      → visit_of t f (want_of a) i e ≡ picked (wanted_of t a i) (node_of t f i) (visit_of t f (want_of a) (i + size_at t i) e)
+  unfolding visit_of node_of down_of kids_of node_head
+  visit_next All {i} {e} p lt = ap (takes (named_by f) every) (forest_node p lt)
+  visit_next (Of r) {i} {e} p lt = ap (takes (named_by f) (of_role (number r))) (forest_node p lt)
 
   pub down_visit : (v : Want) (c : ℕ) → down_of t f v c ≡ visit_of t f v (c + 1) (c + size_at t c)
   unfolding down_of visit_of kids_of
@@ -173,42 +172,38 @@ module _ (t : List ℕ) (f c : ℕ) where
   pub node_continue : kind_at t c ≡ 2 → node_of t f c ≡ stop (breaks (broken_by (node_head t c)))
   node_continue q = kind_form 2 q
 
-  pub node_return : kind_at t c ≡ 4 → node_of t f c ≡ (down_of t f (want_of 4) c ⨟ stop (cond (has 4 (kids_of t c)) valued (bare (node_head t c))))
-  unfolding want_of
+  pub node_return : kind_at t c ≡ 4 → node_of t f c ≡ (down_of t f (of_role 4) c ⨟ stop (cond (has 4 (kids_of t c)) valued (bare (node_head t c))))
   node_return q = kind_form 4 q
 
-  pub node_expression : kind_at t c ≡ 5 → node_of t f c ≡ (down_of t f (want_of 4) c ⨟ cond (fail_of t f c) (stop fails) skip)
-  unfolding want_of fail_of
+  pub node_expression : kind_at t c ≡ 5 → node_of t f c ≡ (down_of t f (of_role 4) c ⨟ cond (fail_of t f c) (stop fails) skip)
+  unfolding fail_of
   node_expression q = kind_form 5 q
 
-  pub node_assign : kind_at t c ≡ 6 → node_of t f c ≡ (down_of t f (want_of 3) c ⨟ down_of t f (want_of 4) c ⨟ down_of t f (want_of 5) c ⨟ node_bind t 5 c)
-  unfolding want_of node_bind
+  pub node_assign : kind_at t c ≡ 6 → node_of t f c ≡ (down_of t f (of_role 3) c ⨟ down_of t f (of_role 4) c ⨟ down_of t f (of_role 5) c ⨟ node_bind t 5 c)
+  unfolding node_bind
   node_assign q = kind_form 6 q
 
   pub node_modify : kind_at t c ≡ 7
-      → node_of t f c ≡ (down_of t f (want_of 4) c ⨟ down_of t f (want_of 5) c ⨟ node_use t 5 c ⨟ down_of t f (want_of 5) c ⨟ node_bind t 5 c)
-  unfolding want_of node_bind node_use
+      → node_of t f c ≡ (down_of t f (of_role 4) c ⨟ down_of t f (of_role 5) c ⨟ node_use t 5 c ⨟ down_of t f (of_role 5) c ⨟ node_bind t 5 c)
+  unfolding node_bind node_use
   node_modify q = kind_form 7 q
 
-  pub node_statements : kind_at t c ≡ 8 → node_of t f c ≡ down_of t f (want_of 0) c
-  unfolding want_of
+  pub node_statements : kind_at t c ≡ 8 → node_of t f c ≡ down_of t f (of_role 0) c
   node_statements q = kind_form 8 q
 
-  pub node_if : kind_at t c ≡ 9 → node_of t f c ≡ (down_of t f (want_of 4) c ⨟ branch (down_of t f (want_of 1) c) skip)
-  unfolding want_of
+  pub node_if : kind_at t c ≡ 9 → node_of t f c ≡ (down_of t f (of_role 4) c ⨟ branch (down_of t f (of_role 1) c) skip)
   node_if q = kind_form 9 q
 
-  pub node_if_else : kind_at t c ≡ 10 → node_of t f c ≡ (down_of t f (want_of 4) c ⨟ branch (down_of t f (want_of 1) c) (down_of t f (want_of 2) c))
-  unfolding want_of
+  pub node_if_else : kind_at t c ≡ 10 → node_of t f c ≡ (down_of t f (of_role 4) c ⨟ branch (down_of t f (of_role 1) c) (down_of t f (of_role 2) c))
   node_if_else q = kind_form 10 q
 
-  pub node_for : kind_at t c ≡ 11 → node_of t f c ≡ (down_of t f (want_of 4) c ⨟ loop (down_of t f (want_of 5) c ⨟ node_bind t 5 c ⨟ down_of t f (want_of 1) c))
-  unfolding want_of node_bind
+  pub node_for : kind_at t c ≡ 11 → node_of t f c ≡ (down_of t f (of_role 4) c ⨟ loop (down_of t f (of_role 5) c ⨟ node_bind t 5 c ⨟ down_of t f (of_role 1) c))
+  unfolding node_bind
   node_for q = kind_form 11 q
 
   pub node_def : kind_at t c ≡ 12
-      → node_of t f c ≡ (down_of t f (want_of 0) c ⨟ down_of t f (want_of 3) c ⨟ node_bind t 6 c ⨟ scope (node_bind t 0 c ⨟ down_of t f (want_of 1) c))
-  unfolding want_of node_bind
+      → node_of t f c ≡ (down_of t f (of_role 0) c ⨟ down_of t f (of_role 3) c ⨟ node_bind t 6 c ⨟ scope (node_bind t 0 c ⨟ down_of t f (of_role 1) c))
+  unfolding node_bind
   node_def q = kind_form 12 q
 
   pub node_load : kind_at t c ≡ 13 → node_of t f c ≡ node_bind t 0 c
@@ -219,28 +214,26 @@ module _ (t : List ℕ) (f c : ℕ) where
   unfolding node_head
   node_identifier q = kind_form 20 q
 
-  pub node_lambda : kind_at t c ≡ 24 → node_of t f c ≡ (down_of t f (want_of 0) c ⨟ scope (node_bind t 0 c ⨟ down_of t f (want_of 1) c))
-  unfolding want_of node_bind
+  pub node_lambda : kind_at t c ≡ 24 → node_of t f c ≡ (down_of t f (of_role 0) c ⨟ scope (node_bind t 0 c ⨟ down_of t f (of_role 1) c))
+  unfolding node_bind
   node_lambda q = kind_form 24 q
 
-  pub node_list : kind_at t c ≡ 25 → node_of t f c ≡ (over_of t f c ⨟ scope (bound_of t f c ⨟ down_of t f (want_of 8) c ⨟ down_of t f (want_of 4) c))
-  unfolding want_of over_of bound_of
+  pub node_list : kind_at t c ≡ 25 → node_of t f c ≡ (over_of t f c ⨟ scope (bound_of t f c ⨟ down_of t f (of_role 8) c ⨟ down_of t f (of_role 4) c))
+  unfolding over_of bound_of
   node_list q = kind_form 25 q
 
-  pub node_dict : kind_at t c ≡ 26 → node_of t f c ≡ (over_of t f c ⨟ scope (bound_of t f c ⨟ down_of t f (want_of 8) c ⨟ down_of t f (want_of 4) c))
-  unfolding want_of over_of bound_of
+  pub node_dict : kind_at t c ≡ 26 → node_of t f c ≡ (over_of t f c ⨟ scope (bound_of t f c ⨟ down_of t f (of_role 8) c ⨟ down_of t f (of_role 4) c))
+  unfolding over_of bound_of
   node_dict q = kind_form 26 q
 
   -- the kinds that no table row names
   pub node_statement : (k : ℕ) → kind_at t c ≡ k → k < 8 → (k ≡ 1 → ⊥) → (k ≡ 2 → ⊥) → (k ≡ 4 → ⊥) → (k ≡ 5 → ⊥) → (k ≡ 6 → ⊥) → (k ≡ 7 → ⊥)
-      → node_of t f c ≡ down_of t f (want_of 9) c
-  unfolding want_of
+      → node_of t f c ≡ down_of t f every c
   node_statement k q h a b d e g i =
       node_form Form.plain (ap (λ (z : ℕ). look z forms Form.plain) q ∙ look_plain k a b d e g i (λ z. omega arith) (λ z. omega arith) (λ z. omega arith) (λ z. omega arith)
       (λ z. omega arith) (λ z. omega arith) (λ z. omega arith) (λ z. omega arith) (λ z. omega arith) (λ z. omega arith))
 
-  pub node_other : (k : ℕ) → kind_at t c ≡ k → 14 ≤ k → (k ≡ 20 → ⊥) → (k ≡ 24 → ⊥) → (k ≡ 25 → ⊥) → (k ≡ 26 → ⊥) → node_of t f c ≡ down_of t f (want_of 9) c
-  unfolding want_of
+  pub node_other : (k : ℕ) → kind_at t c ≡ k → 14 ≤ k → (k ≡ 20 → ⊥) → (k ≡ 24 → ⊥) → (k ≡ 25 → ⊥) → (k ≡ 26 → ⊥) → node_of t f c ≡ down_of t f every c
   node_other k q h a b d e =
       node_form Form.plain (ap (λ (z : ℕ). look z forms Form.plain) q ∙ look_plain k (λ z. omega arith) (λ z. omega arith) (λ z. omega arith) (λ z. omega arith)
       (λ z. omega arith) (λ z. omega arith) (λ z. omega arith) (λ z. omega arith) (λ z. omega arith) (λ z. omega arith) (λ z. omega arith) (λ z. omega arith) a b d e)
@@ -248,76 +241,81 @@ module _ (t : List ℕ) (f c : ℕ) where
 -- a comprehension's clauses
 module _ (t : List ℕ) (f : ℕ) where
   pub clauses_next : {i e : ℕ} → Part t i e → i < e
-      → clauses_of t f i e ≡ picked (eqb 0 (role_at t i)) (down_of t f (want_of 4) i ⨟ down_of t f (want_of 5) i ⨟ node_bind t 5 i) (clauses_of t f (i + size_at t i) e)
-  unfolding clauses_of visit_of down_of kids_of node_bind want_of node_head
+      → clauses_of t f i e ≡ picked (eqb 0 (role_at t i)) (down_of t f (of_role 4) i ⨟ down_of t f (of_role 5) i ⨟ node_bind t 5 i) (clauses_of t f (i + size_at t i) e)
+  unfolding clauses_of visit_of down_of kids_of node_bind node_head
   clauses_next p lt = ap (takes (named_by f) clauses) (forest_node p lt)
 
   over_at : {i e : ℕ} → Part t i e
-      → (child_of t 0 i e < e → visit_of t f first_over i e ≡ down_of t f (want_of 4) (child_of t 0 i e)) × (e ≤ child_of t 0 i e → visit_of t f first_over i e ≡ skip)
-  unfolding visit_of down_of kids_of want_of node_head
-  over_at p = find.seek 0 (λ i e. (child_of t 0 i e < e → visit_of t f first_over i e ≡ down_of t f (want_of 4) (child_of t 0 i e)) × (e ≤ child_of t 0 i e → visit_of t f first_over i e ≡ skip)) t
+      → (child_of t 0 i e < e → visit_of t f first_over i e ≡ down_of t f (of_role 4) (child_of t 0 i e)) × (e ≤ child_of t 0 i e → visit_of t f first_over i e ≡ skip)
+  unfolding visit_of down_of kids_of node_head
+  over_at p = find.seek 0 (λ i e. (child_of t 0 i e < e → visit_of t f first_over i e ≡ down_of t f (of_role 4) (child_of t 0 i e)) × (e ≤ child_of t 0 i e → visit_of t f first_over i e ≡ skip)) t
       nothing here next p
     where
-      nothing : (i e : ℕ) → e ≤ i → (child_of t 0 i e < e → visit_of t f first_over i e ≡ down_of t f (want_of 4) (child_of t 0 i e)) × (e ≤ child_of t 0 i e → visit_of t f first_over i e ≡ skip)
+      nothing : (i e : ℕ) → e ≤ i → (child_of t 0 i e < e → visit_of t f first_over i e ≡ down_of t f (of_role 4) (child_of t 0 i e)) × (e ≤ child_of t 0 i e → visit_of t f first_over i e ≡ skip)
       nothing i e h = ((λ l. absurd (omega (arith, child_end t 0 i e h))), λ l. visit_end t f first_over i e h)
 
-      here : (i e : ℕ) → Part t i e → i < e → role_at t i ≡ 0 → (child_of t 0 i e < e → visit_of t f first_over i e ≡ down_of t f (want_of 4) (child_of t 0 i e)) × (e ≤ child_of t 0 i e → visit_of t f first_over i e ≡ skip)
+      here : (i e : ℕ) → Part t i e → i < e → role_at t i ≡ 0 → (child_of t 0 i e < e → visit_of t f first_over i e ≡ down_of t f (of_role 4) (child_of t 0 i e)) × (e ≤ child_of t 0 i e → visit_of t f first_over i e ≡ skip)
       here i e p lt q = ((λ l. rw (child_here t 0 i e lt q) (ap (takes (named_by f) first_over) (forest_node p lt) ∙ rw (q, step))), λ l. absurd (omega (arith, child_here t 0 i e lt q)))
 
       next : (i e : ℕ) → Part t i e → i < e → (role_at t i ≡ 0 → ⊥)
-          → (child_of t 0 (i + size_at t i) e < e → visit_of t f first_over (i + size_at t i) e ≡ down_of t f (want_of 4) (child_of t 0 (i + size_at t i) e)) × (e ≤ child_of t 0 (i + size_at t i) e → visit_of t f first_over (i + size_at t i) e ≡ skip)
-          → (child_of t 0 i e < e → visit_of t f first_over i e ≡ down_of t f (want_of 4) (child_of t 0 i e)) × (e ≤ child_of t 0 i e → visit_of t f first_over i e ≡ skip)
+          → (child_of t 0 (i + size_at t i) e < e → visit_of t f first_over (i + size_at t i) e ≡ down_of t f (of_role 4) (child_of t 0 (i + size_at t i) e)) × (e ≤ child_of t 0 (i + size_at t i) e → visit_of t f first_over (i + size_at t i) e ≡ skip)
+          → (child_of t 0 i e < e → visit_of t f first_over i e ≡ down_of t f (of_role 4) (child_of t 0 i e)) × (e ≤ child_of t 0 i e → visit_of t f first_over i e ≡ skip)
       next i e p lt q ih =
           let z = child_next p lt 0 q in
           let s : visit_of t f first_over i e ≡ visit_of t f first_over (i + size_at t i) e = ap (takes (named_by f) first_over) (forest_node p lt) ∙ rw (ne_eqb 0 (role_at t i) (λ x. q (sym x)), step) in
           ((λ l. s ∙ rw z (ih.0 (rw z at l))), λ l. s ∙ ih.1 (rw z at l))
 
   bound_at : {i e : ℕ} → Part t i e
-      → (child_of t 0 i e < e → visit_of t f first_bound i e ≡ (down_of t f (want_of 5) (child_of t 0 i e) ⨟ node_bind t 5 (child_of t 0 i e) ⨟ clauses_of t f (child_of t 0 i e + size_at t (child_of t 0 i e)) e))
+      → (child_of t 0 i e < e → visit_of t f first_bound i e ≡ (down_of t f (of_role 5) (child_of t 0 i e) ⨟ node_bind t 5 (child_of t 0 i e) ⨟ clauses_of t f (child_of t 0 i e + size_at t (child_of t 0 i e)) e))
       × (e ≤ child_of t 0 i e → visit_of t f first_bound i e ≡ skip)
-  unfolding visit_of down_of kids_of want_of node_head node_bind clauses_of
-  bound_at p = find.seek 0 (λ i e. (child_of t 0 i e < e → visit_of t f first_bound i e ≡ (down_of t f (want_of 5) (child_of t 0 i e) ⨟ node_bind t 5 (child_of t 0 i e) ⨟ clauses_of t f (child_of t 0 i e + size_at t (child_of t 0 i e)) e))
+  unfolding visit_of down_of kids_of node_head node_bind clauses_of
+  bound_at p = find.seek 0 (λ i e. (child_of t 0 i e < e → visit_of t f first_bound i e ≡ (down_of t f (of_role 5) (child_of t 0 i e) ⨟ node_bind t 5 (child_of t 0 i e) ⨟ clauses_of t f (child_of t 0 i e + size_at t (child_of t 0 i e)) e))
       × (e ≤ child_of t 0 i e → visit_of t f first_bound i e ≡ skip)) t
       nothing here next p
     where
-      nothing : (i e : ℕ) → e ≤ i → (child_of t 0 i e < e → visit_of t f first_bound i e ≡ (down_of t f (want_of 5) (child_of t 0 i e) ⨟ node_bind t 5 (child_of t 0 i e) ⨟ clauses_of t f (child_of t 0 i e + size_at t (child_of t 0 i e)) e))
+      nothing : (i e : ℕ) → e ≤ i → (child_of t 0 i e < e → visit_of t f first_bound i e ≡ (down_of t f (of_role 5) (child_of t 0 i e) ⨟ node_bind t 5 (child_of t 0 i e) ⨟ clauses_of t f (child_of t 0 i e + size_at t (child_of t 0 i e)) e))
           × (e ≤ child_of t 0 i e → visit_of t f first_bound i e ≡ skip)
       nothing i e h = ((λ l. absurd (omega (arith, child_end t 0 i e h))), λ l. visit_end t f first_bound i e h)
 
       here : (i e : ℕ) → Part t i e → i < e → role_at t i ≡ 0
-          → (child_of t 0 i e < e → visit_of t f first_bound i e ≡ (down_of t f (want_of 5) (child_of t 0 i e) ⨟ node_bind t 5 (child_of t 0 i e) ⨟ clauses_of t f (child_of t 0 i e + size_at t (child_of t 0 i e)) e))
+          → (child_of t 0 i e < e → visit_of t f first_bound i e ≡ (down_of t f (of_role 5) (child_of t 0 i e) ⨟ node_bind t 5 (child_of t 0 i e) ⨟ clauses_of t f (child_of t 0 i e + size_at t (child_of t 0 i e)) e))
           × (e ≤ child_of t 0 i e → visit_of t f first_bound i e ≡ skip)
       here i e p lt q = ((λ l. rw (child_here t 0 i e lt q) (ap (takes (named_by f) first_bound) (forest_node p lt) ∙ rw (q, step))), λ l. absurd (omega (arith, child_here t 0 i e lt q)))
 
       next : (i e : ℕ) → Part t i e → i < e → (role_at t i ≡ 0 → ⊥)
-          → (child_of t 0 (i + size_at t i) e < e → visit_of t f first_bound (i + size_at t i) e ≡ (down_of t f (want_of 5) (child_of t 0 (i + size_at t i) e) ⨟ node_bind t 5 (child_of t 0 (i + size_at t i) e) ⨟ clauses_of t f (child_of t 0 (i + size_at t i) e + size_at t (child_of t 0 (i + size_at t i) e)) e))
+          → (child_of t 0 (i + size_at t i) e < e → visit_of t f first_bound (i + size_at t i) e ≡ (down_of t f (of_role 5) (child_of t 0 (i + size_at t i) e) ⨟ node_bind t 5 (child_of t 0 (i + size_at t i) e) ⨟ clauses_of t f (child_of t 0 (i + size_at t i) e + size_at t (child_of t 0 (i + size_at t i) e)) e))
           × (e ≤ child_of t 0 (i + size_at t i) e → visit_of t f first_bound (i + size_at t i) e ≡ skip)
-          → (child_of t 0 i e < e → visit_of t f first_bound i e ≡ (down_of t f (want_of 5) (child_of t 0 i e) ⨟ node_bind t 5 (child_of t 0 i e) ⨟ clauses_of t f (child_of t 0 i e + size_at t (child_of t 0 i e)) e))
+          → (child_of t 0 i e < e → visit_of t f first_bound i e ≡ (down_of t f (of_role 5) (child_of t 0 i e) ⨟ node_bind t 5 (child_of t 0 i e) ⨟ clauses_of t f (child_of t 0 i e + size_at t (child_of t 0 i e)) e))
           × (e ≤ child_of t 0 i e → visit_of t f first_bound i e ≡ skip)
       next i e p lt q ih =
           let z = child_next p lt 0 q in
           let s : visit_of t f first_bound i e ≡ visit_of t f first_bound (i + size_at t i) e = ap (takes (named_by f) first_bound) (forest_node p lt) ∙ rw (ne_eqb 0 (role_at t i) (λ x. q (sym x)), step) in
           ((λ l. s ∙ rw z (ih.0 (rw z at l))), λ l. s ∙ ih.1 (rw z at l))
 
-  -- of node c, whose first clause is x
-  module _ {c d x : ℕ} (n : Node t c d) (q : x ≡ kid_of t 0 c) where
-    pub over_there : x < c + size_at t c → over_of t f c ≡ down_of t f (want_of 4) x
+  -- of node c
+  module _ {c d : ℕ} (n : Node t c d) where
+    pub over_there : {x : ℕ} → Some x ≡ first_clause t c → over_of t f c ≡ down_of t f (of_role 4) x
     unfolding over_of
-    over_there h = down_visit t f first_over c ∙ (over_at (kids_held n)).0 (rw (← q) h) ∙ rw (← q)
+    over_there {x} h =
+        let z = child_some t 0 (c + 1) (c + size_at t c) x h in
+        down_visit t f first_over c ∙ (over_at (kids_held n)).0 (rw (← z.0) z.1) ∙ rw (← z.0)
 
-    pub over_none : c + size_at t c ≤ x → over_of t f c ≡ skip
+    pub over_none : None ≡ first_clause t c → over_of t f c ≡ skip
     unfolding over_of
-    over_none h = down_visit t f first_over c ∙ (over_at (kids_held n)).1 (rw (← q) h)
+    over_none h = down_visit t f first_over c ∙ (over_at (kids_held n)).1 (child_none t 0 (c + 1) (c + size_at t c) h)
 
-    pub bound_there : x < c + size_at t c
-        → bound_of t f c ≡ (down_of t f (want_of 5) x ⨟ node_bind t 5 x ⨟ clauses_of t f (x + size_at t x) (c + size_at t c))
+    pub bound_there : {x : ℕ} → Some x ≡ first_clause t c
+        → bound_of t f c ≡ (down_of t f (of_role 5) x ⨟ node_bind t 5 x ⨟ clauses_of t f (x + size_at t x) (c + size_at t c))
     unfolding bound_of
-    bound_there h = down_visit t f first_bound c ∙ (bound_at (kids_held n)).0 (rw (← q) h) ∙ rw (← q)
+    bound_there {x} h =
+        let z = child_some t 0 (c + 1) (c + size_at t c) x h in
+        down_visit t f first_bound c ∙ (bound_at (kids_held n)).0 (rw (← z.0) z.1) ∙ rw (← z.0)
 
-    pub bound_none : c + size_at t c ≤ x → bound_of t f c ≡ skip
+    pub bound_none : None ≡ first_clause t c → bound_of t f c ≡ skip
     unfolding bound_of
-    bound_none h = down_visit t f first_bound c ∙ (bound_at (kids_held n)).1 (rw (← q) h)
+    bound_none h = down_visit t f first_bound c ∙ (bound_at (kids_held n)).1 (child_none t 0 (c + 1) (c + size_at t c) h)
 
-    -- the first clause stands below node c
-    pub clause_after : c < x
-    clause_after = omega (arith, q, child_ge (kids_held n) 0 (omega (arith, n.some)))
+-- the first clause stands below node c
+pub first_below : {t : List ℕ} {c d x : ℕ} → Node t c d → Some x ≡ first_clause t c → (c < x) × (x < c + size_at t c)
+first_below {t} {c} {d} {x} n h =
+    let z = child_some t 0 (c + 1) (c + size_at t c) x h in (omega (arith, z.0, child_ge (kids_held n) 0 (omega (arith, n.some))), z.1)

@@ -5,38 +5,40 @@ use native.Mathlib.Numerals.{add-one}
 use mathlib.Core.Path.{◌≡◌, refl, sym, ap, ◌∙◌}
 use mathlib.Core.Bool.{Bool, true, false, cond}
 use mathlib.Core.List.{List}
+use Rattle.std.specs.Prelude.{Option}
 use lib.Dec.{eqb}
 use borrow.Author.Tests.{ne_eqb, le-leb, lt-leb}
 use Rattle.tree.specs.Bytes.{pick, kind_at, role_at, size_at}
 use Rattle.tree.specs.Forest.{Head, node_head, forest_of}
 use Rattle.tree.specs.code.Part.{Part}
-use Rattle.tree.specs.code.Find.{child_of, kid_of}
+use Rattle.tree.specs.code.Find.{first_child}
 use Rattle.tree.proofs.Laws.{later}
 use Rattle.rules.specs.Visit.{has}
-use Rattle.rules.specs.Order.{Cmd, Want, skip, ◌⨟◌, loop, valued, bare, fail_called}
+use Rattle.rules.specs.Order.{Cmd, Want, of_role, skip, ◌⨟◌, loop, valued, bare, fail_called}
 use Rattle.rules.specs.Names.{stop_abort}
 use Rattle.scope.specs.State.{abort_of, Fits}
 use Rattle.scope.specs.Words.{with_abort}
 use Rattle.scope.specs.declared.Abort.TheVariants.{Function}
-use Rattle.names.specs.Walk.{Goes, Turns, Node, named_by, kids_of, want_of, wanted_of, names_of, visit_of, down_of, node_of, name_node, names_in, node_bind, node_use, clauses_of, clause_of, fail_of}
+use Rattle.names.specs.Walk.{Goes, Turns, Node, named_by, kids_of, want_of, wanted_of, names_of, visit_of, down_of, node_of, name_node, names_in, node_bind, node_use, clauses_of, first_clause, clause_of, fail_of}
 use Rattle.scope.specs.declared.Scope.{Scope}
+use Rattle.names.specs.declared.walk.Wanted.{Wanted}
 use Rattle.names.proofs.Going.{skips, then, picks, goes_as, stop_to, loops_twice, loops_once}
 use Rattle.names.proofs.Parts.{node_return, kids_held, node_in_part, visit_end, visit_next, down_visit, clauses_end, clauses_next, names_end, names_next, names_kids}
 
 module _ {t : List ℕ} {d : ℕ} (f : ℕ) where
-  pub visit_on : (r : ℕ) {c e : ℕ} → Part t c e → c < e → {w v x : List ℕ} {s q y : Scope}
-      → Goes t d (pick (wanted_of t r c) (node_of t f c) skip) w s v q → Goes t d (visit_of t f (want_of r) (c + size_at t c) e) v q x y
-      → Goes t d (visit_of t f (want_of r) c e) w s x y
-  visit_on r {c} {e} p lt g h = goes_as (visit_next t f r p lt) (picks (wanted_of t r c) (node_of t f c) (visit_of t f (want_of r) (c + size_at t c) e) g h)
+  pub visit_on : (a : Wanted) {c e : ℕ} → Part t c e → c < e → {w v x : List ℕ} {s q y : Scope}
+      → Goes t d (pick (wanted_of t a c) (node_of t f c) skip) w s v q → Goes t d (visit_of t f (want_of a) (c + size_at t c) e) v q x y
+      → Goes t d (visit_of t f (want_of a) c e) w s x y
+  visit_on a {c} {e} p lt g h = goes_as (visit_next t f a p lt) (picks (wanted_of t a c) (node_of t f c) (visit_of t f (want_of a) (c + size_at t c) e) g h)
 
-  pub visit_last : (r c e : ℕ) → e ≤ c → {w : List ℕ} {s : Scope} → Fits w s → Goes t d (visit_of t f (want_of r) c e) w s w s
-  visit_last r c e h g = goes_as (visit_end t f (want_of r) c e h) (skips g)
+  pub visit_last : (a : Wanted) (c e : ℕ) → e ≤ c → {w : List ℕ} {s : Scope} → Fits w s → Goes t d (visit_of t f (want_of a) c e) w s w s
+  visit_last a c e h g = goes_as (visit_end t f (want_of a) c e h) (skips g)
 
   pub clauses_on : {c e : ℕ} → Part t c e → c < e → {w v x : List ℕ} {s q y : Scope}
       → Goes t d (clause_of t f c) w s v q → Goes t d (clauses_of t f (c + size_at t c) e) v q x y → Goes t d (clauses_of t f c e) w s x y
   unfolding clause_of
   clauses_on {c} {e} p lt g h =
-      goes_as (clauses_next t f p lt) (picks (eqb 0 (role_at t c)) (down_of t f (want_of 4) c ⨟ down_of t f (want_of 5) c ⨟ node_bind t 5 c) (clauses_of t f (c + size_at t c) e) g h)
+      goes_as (clauses_next t f p lt) (picks (eqb 0 (role_at t c)) (down_of t f (of_role 4) c ⨟ down_of t f (of_role 5) c ⨟ node_bind t 5 c) (clauses_of t f (c + size_at t c) e) g h)
 
   pub clauses_last : (c e : ℕ) → e ≤ c → {w : List ℕ} {s : Scope} → Fits w s → Goes t d (clauses_of t f c e) w s w s
   clauses_last c e h g = goes_as (clauses_end t f c e h) (skips g)
@@ -64,8 +66,8 @@ module _ (t : List ℕ) (c z : ℕ) (q : z ≡ size_at t c) where
   unfolding fail_of kids_of
   fail_as f n h = (rw q at h) (kids_held n)
 
-  pub kid_as : (r : ℕ) {x : ℕ} → x ≡ child_of t r (c + 1) (c + z) → x ≡ kid_of t r c
-  kid_as r e = rw q at e
+  pub kid_as : {x : Option ℕ} → x ≡ first_child t 0 (c + 1) (c + z) → x ≡ first_clause t c
+  kid_as e = rw q at e
 
 pub node_zero : {t : List ℕ} {c d : ℕ} → Node t c d → Node t c 0
 node_zero n = record { part = n.part; some = n.some; deep = omega arith }
@@ -106,7 +108,7 @@ module _ (t : List ℕ) (f i : ℕ) where
   unfolding clause_of
   clause_none h = rw (ne_eqb 0 (role_at t i) (λ z. h (sym z)))
 
-  pub clause_there : role_at t i ≡ 0 → clause_of t f i ≡ (down_of t f (want_of 4) i ⨟ down_of t f (want_of 5) i ⨟ node_bind t 5 i)
+  pub clause_there : role_at t i ≡ 0 → clause_of t f i ≡ (down_of t f (of_role 4) i ⨟ down_of t f (of_role 5) i ⨟ node_bind t 5 i)
   unfolding clause_of
   clause_there h = rw h
 
@@ -130,33 +132,11 @@ module _ {t : List ℕ} {d : ℕ} {c : Cmd} where
   loop_once h g = loops_once (lt-leb (suc d) 5 (omega arith)) (rw add-one at g)
 
 -- a return
-pub return_node : (t : List ℕ) (f c : ℕ) → kind_at t c ≡ 4 → {d : ℕ} {w v : List ℕ} {s q r : Scope} → Goes t d (down_of t f (want_of 4) c) w s v q → r ≡ with_abort Function q
+pub return_node : (t : List ℕ) (f c : ℕ) → kind_at t c ≡ 4 → {d : ℕ} {w v : List ℕ} {s q r : Scope} → Goes t d (down_of t f (of_role 4) c) w s v q → r ≡ with_abort Function q
     → Goes t d (node_of t f c) w s v r
 return_node t f c k g e =
     goes_as (node_return t f c k)
     (then g (stop_to (cond (has 4 (kids_of t c)) valued (bare (node_head t c))) Function (return_abort (has 4 (kids_of t c)) (node_head t c)) e g.does.fits))
-
--- the tests, as the code takes them
-pub names_first : {k : ℕ} → k ≡ 40 → true ≡ names_of k
-unfolding names_of
-names_first q = rw q
-
-pub names_second : {k : ℕ} → k ≡ 43 → true ≡ names_of k
-unfolding names_of
-names_second q = rw q
-
-pub names_third : {k : ℕ} → (k ≡ 40 → ⊥) → (k ≡ 43 → ⊥) → eqb k 47 ≡ names_of k
-unfolding names_of
-names_third {k} a b = rw (ne_eqb k 40 a, ne_eqb k 43 b)
-
-module _ (t : List ℕ) (r c : ℕ) where
-  pub wanted_every : r ≡ 9 → true ≡ wanted_of t r c
-  unfolding wanted_of
-  wanted_every q = rw q
-
-  pub wanted_role : (r ≡ 9 → ⊥) → {z : ℕ} → z ≡ role_at t c → eqb r z ≡ wanted_of t r c
-  unfolding wanted_of
-  wanted_role a q = rw (q, ne_eqb r 9 a)
 
 pub name_so : {k m : ℕ} {b y : Bool} → k ≡ m → b ≡ names_of k → b ≡ y → names_of m ≡ y
 name_so e h q = ap names_of (sym e) ∙ sym h ∙ q

@@ -6,12 +6,12 @@ use mathlib.Core.List.{List, []}
 use lib.ListN.{length, get_or, replicate, length-replicate}
 use Rattle.tree.specs.Table.{table_of, underscored, globals_of}
 use Rattle.tree.specs.code.Numbers.{number_named}
-use Rattle.rules.specs.Order.{Cmd, fail_name}
+use Rattle.rules.specs.Order.{Cmd, of_role, fail_name}
 use Rattle.rules.specs.code.Marks.{Every, tour, start, names_tour}
 use Rattle.scope.specs.State.{no_entry, room_of, rooms_of, warning_in, out_of, house_of, Fits, Inside}
 use Rattle.scope.specs.Words.{new_scope, closed_of}
 use Rattle.scope.specs.Does.{RoomFor}
-use Rattle.names.specs.Walk.{Goes, want_of, visit_of, module_of}
+use Rattle.names.specs.Walk.{Goes, visit_of, module_of}
 use Rattle.scope.specs.declared.Scope.{Scope}
 use Rattle.scope.proofs.Lists.{places_none}
 use Rattle.scope.proofs.Kept.{inside_kept}
@@ -68,6 +68,6 @@ module _ {t : List ℕ} (ms : Methods t) {c : Cmd} {w v : List ℕ} {s z : Scope
       (rw q (every_end (underscored (table_of t)) RoomFor c 0 start every)) (rw q few)
       ∙ rw q)
 
-pub module_as : (t : List ℕ) (n : ℕ) {f : ℕ} → f ≡ number_named t fail_name → module_of t n ≡ visit_of t f (want_of 0) 0 n
+pub module_as : (t : List ℕ) (n : ℕ) {f : ℕ} → f ≡ number_named t fail_name → module_of t n ≡ visit_of t f (of_role 0) 0 n
 unfolding module_of
 module_as t n e = rw e

@@ -23,12 +23,12 @@ use Rattle.rules.proofs.Seven.{Capacity}
 use Rattle.rules.proofs.Out.{names_few}
 use Rattle.rules.proofs.Whole.{file_nodes, file_capacity}
 use Rattle.scope.specs.Does.{RoomFor}
-use Rattle.names.specs.Walk.{named_by, want_of, visit_of, module_of, Ready}
+use Rattle.names.specs.Walk.{named_by, visit_of, module_of, Ready}
 use Rattle.names.proofs.Fails.{takes_same}
 
 module _ (t : List ℕ) (f : Facts) (v : judged t ≡ Ok f) (bytes : (k : ℕ) → get_or t k 0 < 256) where
   pub same_tree : module_of t f.nodes ≡ body (spells (table_of t) fail_name) (tree_of t)
-  unfolding module_of visit_of want_of tree_of
+  unfolding module_of visit_of tree_of
   same_tree =
       takes_same (named_by (number_named t fail_name)) (spells (table_of t) fail_name) (λ j. sym (spells_number t f v fail_name (value_at t j) (value_low t bytes j))) (whole t f v) (of_role 0)
       ∙ ap (λ (n : ℕ). takes (spells (table_of t) fail_name) (of_role 0) (forest_of t 0 n)) (sound t f v).nodes

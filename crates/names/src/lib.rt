@@ -2,7 +2,7 @@
 // 6 using maybe undefined.
 #![tactic(auto)]
 
-ghost use Rattle.std.specs.Prelude.{◌≡◌, map, ◌≤◌, ◌<◌, length, replicate};
+ghost use Rattle.std.specs.Prelude.{◌≡◌, [], ◌∷◌, map, ◌≤◌, ◌<◌, length, replicate, Ok};
 ghost use Rattle.tree.specs.Judge.{judged};
 ghost use Rattle.tree.specs.code.Part.{Part};
 ghost use Rattle.tree.specs.Table.{table_of, underscored, globals_of};
@@ -10,19 +10,21 @@ ghost use Rattle.rules.specs.Names.{met, told};
 ghost use Rattle.rules.specs.code.Marks.{names_tour};
 ghost use Rattle.rules.specs.Outcome.{work_words};
 ghost use Rattle.rules.specs.Calls.{names_call};
-ghost use Rattle.answer.specs.Page.{write, writes, page};
-ghost use Rattle.names.specs.Answers.{Answers};
+ghost use Rattle.answer.specs.Page.{Added};
+ghost use Rattle.answer.specs.Answers.{Answers};
 ghost use Rattle.names.specs.Records.{record_in, records_of, met_words};
 ghost use Rattle.scope.specs.State.{out_of};
 ghost use Rattle.names.specs.Walk.{module_of, Ready};
 
-use answer::{Note, Place, Sheet, put, started};
+use answer::{Note, Place, Sheet, refused};
 use meeting::first_met;
 use rules::{Answer, CODES, Refusal, WIDTH, WORK_WORDS};
 use scope::Scope;
 use scope::table::{CODE, WARN, word_at};
+use tree::kinds::Role;
 use tree::lookup::number_of;
-use tree::{Facts, Judged, judge};
+use tree::{Facts, judge};
+use walk::Wanted;
 
 mod walk;
 
@@ -32,7 +34,7 @@ fn walked(t: &[u8], n: usize, w: &mut [u16]) -> usize
     ensures { (result ≤ 1024) × (out_of t.now w.new result ≡ names_tour (underscored (table_of t.now)) (globals_of t.now) (module_of t.now n)) }
 {
     let f = number_of(t, b"fail");
-    let s = walk::visit(t, 0, n, 0, 0, f, w, Scope::new());
+    let s = walk::visit(t, 0, n, Wanted::Of(Role::Item), 0, f, w, Scope::new());
     s.closed(t, w)
 }
 
@@ -46,17 +48,15 @@ fn first_nodes(t: &[u8], n: usize, w: &mut [u16], r: usize)
     }
 }
 
-// The record of the k-th warning: its value is the name.
-fn told(t: &[u8], w: &[u16], k: usize, out: &mut [u32], s: Sheet) -> Sheet
+// The record of the k-th warning goes onto the sheet: its value is the name.
+fn told(t: &[u8], w: &[u16], k: usize, sheet: &mut Sheet<'_>)
     requires { k < 1024 }
-    ensures { page out.new result ≡ write (page out.old s) (record_in t.now w.now k) }
+    ensures { Added sheet.old sheet.new (record_in t.now w.now k ∷ []) }
 {
     let at = word_at(w, WARN + k);
     let code = word_at(w, CODE + k);
-    put(
+    sheet.put(
         t,
-        out,
-        s,
         Note {
             code: code as u32,
             at,
@@ -64,21 +64,17 @@ fn told(t: &[u8], w: &[u16], k: usize, out: &mut [u32], s: Sheet) -> Sheet
             second: Place::Nowhere,
             third: Place::Nowhere,
         },
-    )
+    );
 }
 
-// The records of the first n warnings.
-fn records(t: &[u8], w: &[u16], n: usize, out: &mut [u32], s: Sheet) -> Sheet
+// The records of the first n warnings go onto the sheet.
+fn records(t: &[u8], w: &[u16], n: usize, sheet: &mut Sheet<'_>)
     requires { n ≤ 1024 }
-    ensures { page out.new result ≡ writes (page out.old s) (records_of t.now w.now n) }
+    ensures { Added sheet.old sheet.new (records_of t.now w.now n) }
 {
-    let mut r = s;
-    let mut k = 0;
-    while k < n {
-        r = told(t, w, k, out, r);
-        k += 1;
+    for k in 0..n {
+        told(t, w, k, sheet);
     }
-    r
 }
 
 // What n warnings answer: their records, where there is room for all.
@@ -87,19 +83,11 @@ fn answer_of(t: &[u8], w: &[u16], n: usize, out: &mut [u32], tally: [usize; CODE
     ensures { Answers (records_of t.now w.now n) out.old tally result out.new }
 {
     if out.len() / WIDTH < n {
-        return answer::refused(Refusal::AnswerRoom(n));
+        return refused(Refusal::AnswerRoom(n));
     }
-    answer::listed(records(t, w, n, out, started(tally)))
-}
-
-fn clear(w: &mut [u16])
-    ensures { w.new ≡ replicate (length w.old) 0 }
-{
-    let mut k = 0;
-    while k < w.len() {
-        w[k] = 0;
-        k += 1;
-    }
+    let mut sheet = Sheet::new(out, tally);
+    records(t, w, n, &mut sheet);
+    sheet.listed()
 }
 
 // The pass over the n nodes of a valid file, its work room left zero.
@@ -110,7 +98,7 @@ fn lint(t: &[u8], n: usize, w: &mut [u16], out: &mut [u32], tally: [usize; CODES
     let r = walked(t, n, w);
     first_nodes(t, n, w, r);
     let a = answer_of(t, w, r, out, tally);
-    clear(w);
+    w.fill(0);
     a
 }
 
@@ -127,7 +115,7 @@ pub fn lint_valid(
     ensures { record { answer = result; room = out.new; work = work.new } ≡ names_call t.now work.old out.old tally }
 {
     if work.len() < WORK_WORDS {
-        return answer::refused(Refusal::WorkRoom);
+        return refused(Refusal::WorkRoom);
     }
     lint(t, f.nodes, &mut work[..WORK_WORDS], out, tally)
 }
@@ -136,9 +124,8 @@ pub fn lint_valid(
 pub fn names(t: &[u8], work: &mut [u16], out: &mut [u32], tally: [usize; CODES]) -> Answer
     ensures { record { answer = result; room = out.new; work = work.new } ≡ names_call t.now work.old out.old tally }
 {
-    let j = judge(t);
-    let Ok(f) = j else {
-        return answer::refused(answer::refusal_of(j));
-    };
-    lint_valid(t, f, work, out, tally)
+    match judge(t) {
+        Ok(f) => lint_valid(t, f, work, out, tally),
+        Err(why) => refused(why.into()),
+    }
 }

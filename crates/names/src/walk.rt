@@ -5,46 +5,62 @@ ghost use Rattle.std.specs.Prelude.{◌≡◌, ℕ, ◌+◌, ◌<◌, ◌≤◌,
 ghost use Rattle.tree.specs.Bytes.{pick, kind_at, role_at, size_at};
 ghost use Rattle.tree.specs.Forest.{node_head};
 ghost use Rattle.tree.specs.code.Part.{Part};
-ghost use Rattle.tree.specs.code.Find.{kid_of};
-ghost use Rattle.rules.specs.Order.{◌⨟◌, skip, use_of, set_of, branch, scope};
+ghost use Rattle.rules.specs.Order.{◌⨟◌, skip, of_role, use_of, set_of, branch, scope};
 ghost use Rattle.scope.specs.State.{sort_of, Fits};
-ghost use Rattle.names.specs.Walk.{Goes, Turns, Node, want_of, wanted_of, names_of, visit_of, down_of, node_of, node_bind, node_use, name_node, clauses_of, clause_of, over_of, bound_of};
+ghost use Rattle.names.specs.Walk.{Goes, Turns, Node, want_of, used_by, number, first_clause, wanted_of, names_of, visit_of, down_of, node_of, node_bind, node_use, name_node, clauses_of, clause_of, over_of, bound_of};
 
 use fail::is_fail;
 use scope::{Abort, Scope};
 use tree::bytes::{kind_at, role_at, size_at};
 use tree::children::child_of;
+use tree::kinds::{Kind, Role};
 
-// A child is visited for whom the role r is asked for; 9: every one.
-fn wanted(t: &[u8], c: usize, r: usize) -> bool
-    ensures { result ≡ wanted_of t.now r c }
-{
-    if r == 9 {
-        return true;
-    }
-    r == role_at(t, c)
+// Which children are visited.
+#[derive(Clone, Copy, Debug, PartialEq, Eq)]
+pub enum Wanted {
+    All,
+    Of(Role),
 }
 
-// The nodes of role r from i up to e.
+impl Wanted {
+    // Node c is one of them.
+    fn has(self, t: &[u8], c: usize) -> bool
+        ensures { result ≡ wanted_of t.now self c }
+    {
+        match self {
+            Wanted::All => true,
+            Wanted::Of(role) => role as usize == role_at(t, c),
+        }
+    }
+}
+
+// What becomes of the names that are bound.
+#[derive(Clone, Copy, Debug, PartialEq, Eq)]
+enum Binding {
+    Sets,
+    Uses,
+}
+
+// The wanted nodes from i up to e.
 #[cycle(walking)]
 #[inline(never)]
 pub fn visit(
     t: &[u8],
     i: usize,
     e: usize,
-    r: usize,
+    wanted: Wanted,
     d: usize,
     f: usize,
     w: &mut [u16],
     s: Scope,
 ) -> Scope
     requires { Part t.now i e × (d ≤ i) × Fits w.old s }
-    ensures { Goes t.now d (visit_of t.now f (want_of r) i e) w.old s w.new result }
+    ensures { Goes t.now d (visit_of t.now f (want_of wanted) i e) w.old s w.new result }
 {
     let mut z = s;
     let mut c = i;
     while c < e {
-        z = step(t, c, r, d, f, w, z);
+        z = step(t, c, wanted, d, f, w, z);
         c += size_at(t, c);
     }
     z
@@ -53,25 +69,25 @@ pub fn visit(
 // Node c, where it is wanted.
 #[cycle(walking)]
 #[inline(always)]
-fn step(t: &[u8], c: usize, r: usize, d: usize, f: usize, w: &mut [u16], s: Scope) -> Scope
+fn step(t: &[u8], c: usize, wanted: Wanted, d: usize, f: usize, w: &mut [u16], s: Scope) -> Scope
     requires { Node t.now c d × (d ≤ c) × Fits w.old s }
-    ensures { Goes t.now d (pick (wanted_of t.now r c) (node_of t.now f c) skip) w.old s w.new result }
+    ensures { Goes t.now d (pick (wanted_of t.now wanted c) (node_of t.now f c) skip) w.old s w.new result }
 {
-    if wanted(t, c, r) {
+    if wanted.has(t, c) {
         return one(t, c, d, f, w, s);
     }
     s
 }
 
-// The children of role r of node c.
+// The wanted children of node c.
 #[cycle(walking)]
 #[inline(always)]
-fn down(t: &[u8], c: usize, r: usize, d: usize, f: usize, w: &mut [u16], s: Scope) -> Scope
+fn down(t: &[u8], c: usize, wanted: Wanted, d: usize, f: usize, w: &mut [u16], s: Scope) -> Scope
     requires { Node t.now c d × Fits w.old s }
-    ensures { Goes t.now d (down_of t.now f (want_of r) c) w.old s w.new result }
+    ensures { Goes t.now d (down_of t.now f (want_of wanted) c) w.old s w.new result }
 {
     let e = c + size_at(t, c);
-    visit(t, c + 1, e, r, d, f, w, s)
+    visit(t, c + 1, e, wanted, d, f, w, s)
 }
 
 // One node.
@@ -82,13 +98,13 @@ fn one(t: &[u8], c: usize, d: usize, f: usize, w: &mut [u16], s: Scope) -> Scope
     ensures { Goes t.now d (node_of t.now f c) w.old s w.new result }
 {
     let k = kind_at(t, c);
-    if 14 <= k {
-        return expr(t, c, k, d, f, w, s);
+    if k < Kind::Statements as usize {
+        stmt(t, c, k, d, f, w, s)
+    } else if k <= Kind::Load as usize {
+        block(t, c, k, d, f, w, s)
+    } else {
+        expr(t, c, k, d, f, w, s)
     }
-    if 8 <= k {
-        return block(t, c, k, d, f, w, s);
-    }
-    stmt(t, c, k, d, f, w, s)
 }
 
 // Statements with no statement below: break, continue and pass too.
@@ -98,25 +114,19 @@ fn stmt(t: &[u8], c: usize, k: usize, d: usize, f: usize, w: &mut [u16], s: Scop
     requires { (k ≡ kind_at t.now c) × (k < 8) × Node t.now c d × Fits w.old s }
     ensures { Goes t.now d (node_of t.now f c) w.old s w.new result }
 {
-    if k == 4 {
-        return ret(t, c, d, f, w, s);
+    if k == Kind::Return as usize {
+        ret(t, c, d, f, w, s)
+    } else if k == Kind::Expression as usize {
+        eval(t, c, d, f, w, s)
+    } else if k == Kind::Assign as usize {
+        gets(t, c, d, f, w, s)
+    } else if k == Kind::AssignModify as usize {
+        modify(t, c, d, f, w, s)
+    } else if k == Kind::Break as usize || k == Kind::Continue as usize {
+        s.stop(Abort::Loop)
+    } else {
+        down(t, c, Wanted::All, d, f, w, s)
     }
-    if k == 5 {
-        return eval(t, c, d, f, w, s);
-    }
-    if k == 6 {
-        return gets(t, c, d, f, w, s);
-    }
-    if k == 7 {
-        return modify(t, c, d, f, w, s);
-    }
-    if k == 1 {
-        return s.stop(Abort::Loop);
-    }
-    if k == 2 {
-        return s.stop(Abort::Loop);
-    }
-    down(t, c, 9, d, f, w, s)
 }
 
 #[cycle(walking)]
@@ -125,7 +135,7 @@ fn ret(t: &[u8], c: usize, d: usize, f: usize, w: &mut [u16], s: Scope) -> Scope
     requires { (kind_at t.now c ≡ 4) × Node t.now c d × Fits w.old s }
     ensures { Goes t.now d (node_of t.now f c) w.old s w.new result }
 {
-    let a = down(t, c, 4, d, f, w, s);
+    let a = down(t, c, Wanted::Of(Role::Expression), d, f, w, s);
     a.stop(Abort::Function)
 }
 
@@ -136,12 +146,13 @@ fn eval(t: &[u8], c: usize, d: usize, f: usize, w: &mut [u16], s: Scope) -> Scop
     requires { (kind_at t.now c ≡ 5) × Node t.now c d × Fits w.old s }
     ensures { Goes t.now d (node_of t.now f c) w.old s w.new result }
 {
-    let a = down(t, c, 4, d, f, w, s);
+    let a = down(t, c, Wanted::Of(Role::Expression), d, f, w, s);
     let e = c + size_at(t, c);
     if is_fail(t, f, c + 1, e) {
-        return a.stop(Abort::Function);
+        a.stop(Abort::Function)
+    } else {
+        a
     }
-    a
 }
 
 #[cycle(walking)]
@@ -150,8 +161,8 @@ fn gets(t: &[u8], c: usize, d: usize, f: usize, w: &mut [u16], s: Scope) -> Scop
     requires { (kind_at t.now c ≡ 6) × Node t.now c d × Fits w.old s }
     ensures { Goes t.now d (node_of t.now f c) w.old s w.new result }
 {
-    let a = down(t, c, 3, d, f, w, s);
-    let b = down(t, c, 4, d, f, w, a);
+    let a = down(t, c, Wanted::Of(Role::Type), d, f, w, s);
+    let b = down(t, c, Wanted::Of(Role::Expression), d, f, w, a);
     assign(t, c, d, f, w, b)
 }
 
@@ -161,9 +172,9 @@ fn modify(t: &[u8], c: usize, d: usize, f: usize, w: &mut [u16], s: Scope) -> Sc
     requires { (kind_at t.now c ≡ 7) × Node t.now c d × Fits w.old s }
     ensures { Goes t.now d (node_of t.now f c) w.old s w.new result }
 {
-    let a = down(t, c, 4, d, f, w, s);
-    let b = down(t, c, 5, d, f, w, a);
-    let x = bind(t, c, 5, true, w, b);
+    let a = down(t, c, Wanted::Of(Role::Expression), d, f, w, s);
+    let b = down(t, c, Wanted::Of(Role::Target), d, f, w, a);
+    let x = bind(t, c, Role::Target, Binding::Uses, w, b);
     assign(t, c, d, f, w, x)
 }
 
@@ -172,10 +183,10 @@ fn modify(t: &[u8], c: usize, d: usize, f: usize, w: &mut [u16], s: Scope) -> Sc
 #[inline(never)]
 fn assign(t: &[u8], c: usize, d: usize, f: usize, w: &mut [u16], s: Scope) -> Scope
     requires { Node t.now c d × Fits w.old s }
-    ensures { Goes t.now d (down_of t.now f (want_of 5) c ⨟ node_bind t.now 5 c) w.old s w.new result }
+    ensures { Goes t.now d (down_of t.now f (of_role 5) c ⨟ node_bind t.now 5 c) w.old s w.new result }
 {
-    let mut a = down(t, c, 5, d, f, w, s);
-    a = bind(t, c, 5, false, w, a);
+    let mut a = down(t, c, Wanted::Of(Role::Target), d, f, w, s);
+    a = bind(t, c, Role::Target, Binding::Sets, w, a);
     a
 }
 
@@ -186,33 +197,32 @@ fn block(t: &[u8], c: usize, k: usize, d: usize, f: usize, w: &mut [u16], s: Sco
     requires { (k ≡ kind_at t.now c) × (8 ≤ k) × (k < 14) × (d ≤ c) × Node t.now c d × Fits w.old s }
     ensures { Goes t.now d (node_of t.now f c) w.old s w.new result }
 {
-    if k == 8 {
-        return down(t, c, 0, d, f, w, s);
+    if k == Kind::Statements as usize {
+        down(t, c, Wanted::Of(Role::Item), d, f, w, s)
+    } else if k == Kind::Def as usize {
+        def(t, c, d, f, w, s)
+    } else if k == Kind::Load as usize {
+        bind(t, c, Role::Item, Binding::Sets, w, s)
+    } else if k == Kind::For as usize {
+        loops(t, c, d, f, w, s)
+    } else {
+        cond(t, c, k, d, f, w, s)
     }
-    if k == 12 {
-        return def(t, c, d, f, w, s);
-    }
-    if k == 13 {
-        return bind(t, c, 0, false, w, s);
-    }
-    if k == 11 {
-        return loops(t, c, d, f, w, s);
-    }
-    cond(t, c, k, d, f, w, s)
 }
 
-// An if, an if-else: what is visited first has role 4.
+// An if, an if-else: its condition first.
 #[cycle(walking)]
 #[inline(never)]
 fn cond(t: &[u8], c: usize, k: usize, d: usize, f: usize, w: &mut [u16], s: Scope) -> Scope
     requires { (k ≡ kind_at t.now c) × (9 ≤ k) × (k < 11) × Node t.now c d × Fits w.old s }
     ensures { Goes t.now d (node_of t.now f c) w.old s w.new result }
 {
-    let a = down(t, c, 4, d, f, w, s);
-    if k == 9 {
-        return side(t, c, d, f, w, a);
+    let a = down(t, c, Wanted::Of(Role::Expression), d, f, w, s);
+    if k == Kind::If as usize {
+        side(t, c, d, f, w, a)
+    } else {
+        branch(t, c, d, f, w, a)
     }
-    branch(t, c, d, f, w, a)
 }
 
 // An if: the second side is empty.
@@ -220,9 +230,9 @@ fn cond(t: &[u8], c: usize, k: usize, d: usize, f: usize, w: &mut [u16], s: Scop
 #[inline(never)]
 fn side(t: &[u8], c: usize, d: usize, f: usize, w: &mut [u16], s: Scope) -> Scope
     requires { Node t.now c d × Fits w.old s }
-    ensures { Goes t.now d (branch (down_of t.now f (want_of 1) c) skip) w.old s w.new result }
+    ensures { Goes t.now d (branch (down_of t.now f (of_role 1) c) skip) w.old s w.new result }
 {
-    let a = down(t, c, 1, d, f, w, s);
+    let a = down(t, c, Wanted::Of(Role::First), d, f, w, s);
     let b = a.back(s);
     b.join(a)
 }
@@ -232,10 +242,10 @@ fn side(t: &[u8], c: usize, d: usize, f: usize, w: &mut [u16], s: Scope) -> Scop
 #[inline(never)]
 fn branch(t: &[u8], c: usize, d: usize, f: usize, w: &mut [u16], s: Scope) -> Scope
     requires { Node t.now c d × Fits w.old s }
-    ensures { Goes t.now d (branch (down_of t.now f (want_of 1) c) (down_of t.now f (want_of 2) c)) w.old s w.new result }
+    ensures { Goes t.now d (branch (down_of t.now f (of_role 1) c) (down_of t.now f (of_role 2) c)) w.old s w.new result }
 {
-    let a = down(t, c, 1, d, f, w, s);
-    let b = down(t, c, 2, d, f, w, a.back(s));
+    let a = down(t, c, Wanted::Of(Role::First), d, f, w, s);
+    let b = down(t, c, Wanted::Of(Role::Second), d, f, w, a.back(s));
     b.join(a)
 }
 
@@ -247,7 +257,7 @@ fn loops(t: &[u8], c: usize, d: usize, f: usize, w: &mut [u16], s: Scope) -> Sco
     ensures { Goes t.now d (node_of t.now f c) w.old s w.new result }
 {
     let n = d + 1;
-    let mut a = down(t, c, 4, d, f, w, s);
+    let mut a = down(t, c, Wanted::Of(Role::Expression), d, f, w, s);
     a = turn(t, c, n, f, w, a);
     if 5 < n {
         return a;
@@ -260,10 +270,10 @@ fn loops(t: &[u8], c: usize, d: usize, f: usize, w: &mut [u16], s: Scope) -> Sco
 #[inline(never)]
 fn turn(t: &[u8], c: usize, d: usize, f: usize, w: &mut [u16], s: Scope) -> Scope
     requires { Node t.now c d × Fits w.old s }
-    ensures { Turns t.now d (down_of t.now f (want_of 5) c ⨟ node_bind t.now 5 c ⨟ down_of t.now f (want_of 1) c) w.old s w.new result }
+    ensures { Turns t.now d (down_of t.now f (of_role 5) c ⨟ node_bind t.now 5 c ⨟ down_of t.now f (of_role 1) c) w.old s w.new result }
 {
     let x = assign(t, c, d, f, w, s);
-    let a = down(t, c, 1, d, f, w, x);
+    let a = down(t, c, Wanted::Of(Role::First), d, f, w, x);
     let b = a.back(s);
     let j = b.join(a);
     j.unlooped()
@@ -275,9 +285,9 @@ fn def(t: &[u8], c: usize, d: usize, f: usize, w: &mut [u16], s: Scope) -> Scope
     requires { (kind_at t.now c ≡ 12) × Node t.now c d × Fits w.old s }
     ensures { Goes t.now d (node_of t.now f c) w.old s w.new result }
 {
-    let a = down(t, c, 0, d, f, w, s);
-    let b = down(t, c, 3, d, f, w, a);
-    let n = bind(t, c, 6, false, w, b);
+    let a = down(t, c, Wanted::Of(Role::Item), d, f, w, s);
+    let b = down(t, c, Wanted::Of(Role::Type), d, f, w, a);
+    let n = bind(t, c, Role::Name, Binding::Sets, w, b);
     body(t, c, d, f, w, n)
 }
 
@@ -286,10 +296,10 @@ fn def(t: &[u8], c: usize, d: usize, f: usize, w: &mut [u16], s: Scope) -> Scope
 #[inline(always)]
 fn body(t: &[u8], c: usize, d: usize, f: usize, w: &mut [u16], s: Scope) -> Scope
     requires { Node t.now c d × Fits w.old s }
-    ensures { Goes t.now d (scope (node_bind t.now 0 c ⨟ down_of t.now f (want_of 1) c)) w.old s w.new result }
+    ensures { Goes t.now d (scope (node_bind t.now 0 c ⨟ down_of t.now f (of_role 1) c)) w.old s w.new result }
 {
-    let a = bind(t, c, 0, false, w, s.enter());
-    let b = down(t, c, 1, d, f, w, a);
+    let a = bind(t, c, Role::Item, Binding::Sets, w, s.enter());
+    let b = down(t, c, Wanted::Of(Role::First), d, f, w, a);
     b.leave(t, w, s)
 }
 
@@ -299,7 +309,7 @@ fn lambda(t: &[u8], c: usize, d: usize, f: usize, w: &mut [u16], s: Scope) -> Sc
     requires { (kind_at t.now c ≡ 24) × Node t.now c d × Fits w.old s }
     ensures { Goes t.now d (node_of t.now f c) w.old s w.new result }
 {
-    let a = down(t, c, 0, d, f, w, s);
+    let a = down(t, c, Wanted::Of(Role::Item), d, f, w, s);
     body(t, c, d, f, w, a)
 }
 
@@ -309,74 +319,68 @@ fn expr(t: &[u8], c: usize, k: usize, d: usize, f: usize, w: &mut [u16], s: Scop
     requires { (k ≡ kind_at t.now c) × (14 ≤ k) × Node t.now c d × Fits w.old s }
     ensures { Goes t.now d (node_of t.now f c) w.old s w.new result }
 {
-    if k == 20 {
-        return s.used(t, w, c);
+    if k == Kind::Identifier as usize {
+        s.used(t, w, c)
+    } else if k == Kind::Lambda as usize {
+        lambda(t, c, d, f, w, s)
+    } else if k == Kind::ListComprehension as usize || k == Kind::DictComprehension as usize {
+        comp(t, c, d, f, w, s)
+    } else {
+        down(t, c, Wanted::All, d, f, w, s)
     }
-    if k == 24 {
-        return lambda(t, c, d, f, w, s);
-    }
-    if k == 25 {
-        return comp(t, c, d, f, w, s);
-    }
-    if k == 26 {
-        return comp(t, c, d, f, w, s);
-    }
-    down(t, c, 9, d, f, w, s)
 }
 
 #[cycle(walking)]
 #[inline(never)]
 fn comp(t: &[u8], c: usize, d: usize, f: usize, w: &mut [u16], s: Scope) -> Scope
     requires { Node t.now c d × Fits w.old s }
-    ensures { Goes t.now d (over_of t.now f c ⨟ scope (bound_of t.now f c ⨟ down_of t.now f (want_of 8) c ⨟ down_of t.now f (want_of 4) c)) w.old s w.new result }
+    ensures { Goes t.now d (over_of t.now f c ⨟ scope (bound_of t.now f c ⨟ down_of t.now f (of_role 8) c ⨟ down_of t.now f (of_role 4) c)) w.old s w.new result }
 {
     let e = c + size_at(t, c);
-    let x = child_of(t, 0, c + 1, e);
-    let a = over(t, c, x, d, f, w, s);
-    let mut b = rest(t, c, x, d, f, w, a.enter());
+    let first = child_of(t, Role::Item as usize, c + 1, e);
+    let a = over(t, c, first, d, f, w, s);
+    let mut b = rest(t, c, first, d, f, w, a.enter());
     b = b.leave(t, w, a);
     b
 }
 
-// The over of the comprehension c's first clause, x.
+// The over of the comprehension c's first clause.
 #[cycle(walking)]
 #[inline(never)]
-fn over(t: &[u8], c: usize, x: usize, d: usize, f: usize, w: &mut [u16], s: Scope) -> Scope
-    requires { (x ≡ kid_of t.now 0 c) × Node t.now c d × Fits w.old s }
+fn over(t: &[u8], c: usize, first: Option<usize>, d: usize, f: usize, w: &mut [u16], s: Scope) -> Scope
+    requires { (first ≡ first_clause t.now c) × Node t.now c d × Fits w.old s }
     ensures { Goes t.now d (over_of t.now f c) w.old s w.new result }
 {
-    let e = c + size_at(t, c);
-    if x < e {
-        return down(t, x, 4, d, f, w, s);
-    }
-    s
+    let Some(x) = first else {
+        return s;
+    };
+    down(t, x, Wanted::Of(Role::Expression), d, f, w, s)
 }
 
-// What of the comprehension c comes after its first over, in clause x.
+// What of the comprehension c comes after its first over.
 #[cycle(walking)]
 #[inline(never)]
-fn rest(t: &[u8], c: usize, x: usize, d: usize, f: usize, w: &mut [u16], s: Scope) -> Scope
-    requires { (x ≡ kid_of t.now 0 c) × Node t.now c d × Fits w.old s }
-    ensures { Goes t.now d (bound_of t.now f c ⨟ down_of t.now f (want_of 8) c ⨟ down_of t.now f (want_of 4) c) w.old s w.new result }
+fn rest(t: &[u8], c: usize, first: Option<usize>, d: usize, f: usize, w: &mut [u16], s: Scope) -> Scope
+    requires { (first ≡ first_clause t.now c) × Node t.now c d × Fits w.old s }
+    ensures { Goes t.now d (bound_of t.now f c ⨟ down_of t.now f (of_role 8) c ⨟ down_of t.now f (of_role 4) c) w.old s w.new result }
 {
-    let a = bound(t, c, x, d, f, w, s);
-    let b = down(t, c, 8, d, f, w, a);
-    down(t, c, 4, d, f, w, b)
+    let a = bound(t, c, first, d, f, w, s);
+    let b = down(t, c, Wanted::Of(Role::Key), d, f, w, a);
+    down(t, c, Wanted::Of(Role::Expression), d, f, w, b)
 }
 
 // The first target, and the later clauses.
 #[cycle(walking)]
 #[inline(never)]
-fn bound(t: &[u8], c: usize, x: usize, d: usize, f: usize, w: &mut [u16], s: Scope) -> Scope
-    requires { (x ≡ kid_of t.now 0 c) × Node t.now c d × Fits w.old s }
+fn bound(t: &[u8], c: usize, first: Option<usize>, d: usize, f: usize, w: &mut [u16], s: Scope) -> Scope
+    requires { (first ≡ first_clause t.now c) × Node t.now c d × Fits w.old s }
     ensures { Goes t.now d (bound_of t.now f c) w.old s w.new result }
 {
-    let e = c + size_at(t, c);
-    if x < e {
-        let a = assign(t, x, d, f, w, s);
-        return later(t, c, x, d, f, w, a);
-    }
-    s
+    let Some(x) = first else {
+        return s;
+    };
+    let a = assign(t, x, d, f, w, s);
+    later(t, c, x, d, f, w, a)
 }
 
 // The clauses of the comprehension c after the first, x.
@@ -402,25 +406,25 @@ fn clause(t: &[u8], i: usize, d: usize, f: usize, w: &mut [u16], s: Scope) -> Sc
     requires { Node t.now i d × Fits w.old s }
     ensures { Goes t.now d (clause_of t.now f i) w.old s w.new result }
 {
-    if role_at(t, i) != 0 {
+    if role_at(t, i) != Role::Item as usize {
         return s;
     }
-    let a = down(t, i, 4, d, f, w, s);
+    let a = down(t, i, Wanted::Of(Role::Expression), d, f, w, s);
     assign(t, i, d, f, w, a)
 }
 
-// The names that the children of role r of node c bind: used where `uses`, else set.
+// The names that the children of a role of node c bind.
 #[cycle(binding)]
 #[inline(never)]
-fn bind(t: &[u8], c: usize, r: usize, uses: bool, w: &mut [u16], s: Scope) -> Scope
+fn bind(t: &[u8], c: usize, role: Role, binding: Binding, w: &mut [u16], s: Scope) -> Scope
     requires { Node t.now c 0 × Fits w.old s }
-    ensures { (d : ℕ) → Goes t.now d (pick uses (node_use t.now r c) (node_bind t.now r c)) w.old s w.new result }
+    ensures { (d : ℕ) → Goes t.now d (pick (used_by binding) (node_use t.now (number role) c) (node_bind t.now (number role) c)) w.old s w.new result }
 {
     let e = c + size_at(t, c);
     let mut z = s;
     let mut i = c + 1;
     while i < e {
-        z = bind_one(t, i, r, uses, w, z);
+        z = bind_one(t, i, role, binding, w, z);
         i += size_at(t, i);
     }
     z
@@ -428,43 +432,37 @@ fn bind(t: &[u8], c: usize, r: usize, uses: bool, w: &mut [u16], s: Scope) -> Sc
 
 #[cycle(binding)]
 #[inline(never)]
-fn bind_one(t: &[u8], i: usize, r: usize, uses: bool, w: &mut [u16], s: Scope) -> Scope
+fn bind_one(t: &[u8], i: usize, role: Role, binding: Binding, w: &mut [u16], s: Scope) -> Scope
     requires { Node t.now i 0 × Fits w.old s }
-    ensures { (d : ℕ) → Goes t.now d (pick (eqb r (role_at t.now i)) (name_node uses t.now i) skip) w.old s w.new result }
+    ensures { (d : ℕ) → Goes t.now d (pick (eqb (number role) (role_at t.now i)) (name_node (used_by binding) t.now i) skip) w.old s w.new result }
 {
-    if role_at(t, i) != r {
+    if role_at(t, i) != role as usize {
         return s;
     }
     let k = kind_at(t, i);
-    if k == 41 {
-        return bind(t, i, 0, uses, w, s);
+    if k == Kind::Several as usize {
+        bind(t, i, Role::Item, binding, w, s)
+    } else if binds_name(k) {
+        ident(t, i, binding, w, s)
+    } else {
+        s
     }
-    if binds_name(k) {
-        return ident(t, i, uses, w, s);
-    }
-    s
 }
 
-// The name of node i: used where `uses`, else set.
+// The name of node i.
 #[inline(never)]
-fn ident(t: &[u8], i: usize, uses: bool, w: &mut [u16], s: Scope) -> Scope
+fn ident(t: &[u8], i: usize, binding: Binding, w: &mut [u16], s: Scope) -> Scope
     requires { Node t.now i 0 × Fits w.old s }
-    ensures { (d : ℕ) → Goes t.now d (pick uses (use_of (node_head t.now i)) (set_of (sort_of (kind_at t.now i)) (node_head t.now i))) w.old s w.new result }
+    ensures { (d : ℕ) → Goes t.now d (pick (used_by binding) (use_of (node_head t.now i)) (set_of (sort_of (kind_at t.now i)) (node_head t.now i))) w.old s w.new result }
 {
-    if uses {
-        return s.used(t, w, i);
+    match binding {
+        Binding::Sets => s.set(t, w, i),
+        Binding::Uses => s.used(t, w, i),
     }
-    s.set(t, w, i)
 }
 
 fn binds_name(k: usize) -> bool
     ensures { result ≡ names_of k }
 {
-    if k == 40 {
-        return true;
-    }
-    if k == 43 {
-        return true;
-    }
-    k == 47
+    k == Kind::Name as usize || k == Kind::NamedParameter as usize || k == Kind::LoadedName as usize
 }

@@ -156,9 +156,9 @@ added_retold k g a h e = record { wrote = retold k g a.wrote h e; same_room = a.
 pub byte_added : (w w' : Writer) (b : ℕ) → w'.out.now ≡ set w.out.now w.count b → w'.count ≡ min (w.count + 1) 18446744073709551615
     → w.count ≤ 18446744073709551615 → w'.out.ghost_name ≡ w.out.ghost_name → Added w w' 1 (λ rest. b ∷ rest)
 byte_added w w' b e c h r =
-    let m : min (w.count + 1) 18446744073709551615 ≡ one_more w.count = one_more_min w.count h in record {
-      wrote =
-      subst (λ (k : ℕ). Wrote w.out.now w.count w'.out.now k 1 (λ rest. b ∷ rest)) (sym (c ∙ m))
-      (subst (λ (o : List ℕ). Wrote w.out.now w.count o (one_more w.count) 1 (λ rest. b ∷ rest)) (sym e) (byte_wrote w.out.now w.count b));
+    let o = w.out.now in
+    let n = w.count in
+    let stored = subst (λ (p : List ℕ). Wrote o n p (one_more n) 1 (λ rest. b ∷ rest)) (sym e) (byte_wrote o n b) in record {
+      wrote = subst (λ (k : ℕ). Wrote o n w'.out.now k 1 (λ rest. b ∷ rest)) (sym (c ∙ one_more_min n h)) stored;
       same_room = r;
     }

@@ -2,7 +2,7 @@
 // count stays at the largest usize. Lent no room, a writer tells how many bytes would be written.
 #![tactic(auto)]
 
-ghost use Rattle.std.specs.Prelude.{◌≡◌, ◌∷◌, ◌++◌, ◌+◌, ◌<◌, length};
+ghost use Rattle.std.specs.Prelude.{◌≡◌, ◌∷◌, ◌++◌, ◌+◌, length};
 ghost use Rattle.page.specs.Page.{Added};
 ghost use Rattle.page.specs.Digits.{decimal};
 
@@ -25,6 +25,7 @@ impl<'a> Writer<'a> {
     pub fn put(&mut self, b: u8)
         ensures { Added self.old self.new 1 (λ rest. b ∷ rest) }
     {
+        // Kept: over `get_mut` the proof doesn't close, since a slice's `get_mut` promises nothing of what the slice ends as.
         if self.count < self.out.len() {
             self.out[self.count] = b;
         }
@@ -35,8 +36,8 @@ impl<'a> Writer<'a> {
     pub fn raw(&mut self, s: &[u8])
         ensures { Added self.old self.new (length s.now) (λ rest. s.now ++ rest) }
     {
-        for b in s {
-            self.put(*b);
+        for &b in s {
+            self.put(b);
         }
     }
 
@@ -47,7 +48,7 @@ impl<'a> Writer<'a> {
         if x >= 10 {
             self.decimal(x / 10);
         }
-        self.put(digit(x % 10));
+        self.put(b'0' + (x % 10) as u8);
     }
 
     // A number of 32 bits has no more than ten.
@@ -56,11 +57,4 @@ impl<'a> Writer<'a> {
     {
         self.decimal(x as usize);
     }
-}
-
-fn digit(d: usize) -> u8
-    requires { d < 10 }
-    ensures { result ≡ 48 + d }
-{
-    b'0' + d as u8
 }

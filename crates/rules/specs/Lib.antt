@@ -18,5 +18,6 @@ pub mod Premises
 pub mod Letter
 pub mod code
 pub mod Codes
+pub mod Decoded
 pub mod Known
 pub mod Examples

@@ -2,6 +2,7 @@
 #![tactic(auto)]
 
 ghost use Rattle.std.specs.Prelude.{◌≡◌};
+ghost use Rattle.rules.specs.Decoded.{Decodes};
 ghost use Rattle.rules.specs.Incompatible.{allowance, free};
 ghost use Rattle.rules.specs.Outcome.{number_of, place_of};
 ghost use Rattle.rules.specs.declared.Refusal.TheVariants.{Tree};
@@ -37,6 +38,39 @@ pub enum Code {
     IdentAsStatement = 17,
 }
 
+// A number that is no code.
+#[derive(Clone, Copy, Debug, PartialEq, Eq)]
+pub struct UnknownCode(pub u32);
+
+impl TryFrom<u32> for Code {
+    type Error = UnknownCode;
+
+    ghost try_from_gives = { Decodes };
+
+    fn try_from(number: u32) -> Result<Self, UnknownCode> {
+        match number {
+            1 => Ok(Code::UnusedLoad),
+            2 => Ok(Code::UnusedAssign),
+            3 => Ok(Code::UnusedArgument),
+            4 => Ok(Code::UsingUnassigned),
+            5 => Ok(Code::UsingUndefined),
+            6 => Ok(Code::UsingMaybeUndefined),
+            7 => Ok(Code::MissingReturnExpression),
+            8 => Ok(Code::MissingReturn),
+            9 => Ok(Code::Unreachable),
+            10 => Ok(Code::RedundantReturn),
+            11 => Ok(Code::RedundantContinue),
+            12 => Ok(Code::MisplacedLoad),
+            13 => Ok(Code::NoEffect),
+            14 => Ok(Code::IncompatibleTypeCheck),
+            15 => Ok(Code::DuplicateTopLevelAssign),
+            16 => Ok(Code::DuplicateKey),
+            17 => Ok(Code::IdentAsStatement),
+            _ => Err(UnknownCode(number)),
+        }
+    }
+}
+
 // How often x = x of a loaded name is free.
 #[derive(Clone, Copy, Debug, PartialEq, Eq)]
 pub enum Allowance {
@@ -49,20 +83,17 @@ impl Allowance {
     pub fn of(version: usize) -> Allowance
         ensures { result ≡ allowance version }
     {
-        if version == 2 {
-            return Allowance::Always;
+        match version {
+            2 => Allowance::Always,
+            _ => Allowance::Once,
         }
-        Allowance::Once
     }
 
     // Whether x = x is free; before: it was free already.
     pub fn free(self, before: bool) -> bool
         ensures { result ≡ free self before }
     {
-        match self {
-            Allowance::Once => !before,
-            Allowance::Always => true,
-        }
+        self == Allowance::Always || !before
     }
 }
 
@@ -96,8 +127,7 @@ impl Refusal {
         match self {
             Refusal::Tree(why) => why.place(),
             Refusal::WorkRoom => 0,
-            Refusal::AnswerRoom(n) => n,
-            Refusal::OtherRoom(n) => n,
+            Refusal::AnswerRoom(n) | Refusal::OtherRoom(n) => n,
         }
     }
 }
@@ -111,7 +141,7 @@ impl From<tree::Refusal> for Refusal {
 }
 
 // How many records are listed, or why none is; and of a refusal too a tally, all zero.
-#[derive(Clone, Copy)]
+#[derive(Clone, Copy, Debug, PartialEq, Eq)]
 pub struct Answer {
     pub outcome: Result<usize, Refusal>,
     pub tally: [usize; CODES],

@@ -125,6 +125,9 @@ no_second c d e f g =
     (both (not (eqb c 15)) (not (eqb c 16) && true) (apart c 15 f)
     (both (not (eqb c 16)) true (apart c 16 g) tt))))
 
+pub no_reason_words : (n : ℕ) → (n ≡ 1 → ⊥) → (n ≡ 2 → ⊥) → look n reasons "" ≡ ""
+no_reason_words n d e = look_none n reasons "" (both (not (eqb n 1)) (not (eqb n 2) && true) (apart n 1 d) (both (not (eqb n 2)) true (apart n 2 e) tt))
+
 pub no_third : (c : ℕ) → (c ≡ 7 → ⊥) → look c thirds "" ≡ ""
 no_third c d = look_none c thirds "" (both (not (eqb c 7)) true (apart c 7 d) tt)
 

@@ -1,16 +1,19 @@
 -- A loop that writes, turn by turn: what is still to be written. Assumes nothing.
-use Prim.Native.Nat.{ℕ, zero, suc, ◌+◌, ◌-◌, ◌*◌, ◌≤◌, ◌<◌}
+use Prim.Native.Nat.{ℕ, zero, suc, ◌+◌, ◌-◌, ◌*◌, ◌≤◌, ◌<◌, min}
 use native.Mathlib.Omega.{arith}
-use borrow.Author.Tests.{ne_eqb, lt-ltb, le-ltb}
+use native.Mathlib.Numerals.{add-one}
+use borrow.Author.Tests.{ne_eqb, lt-ltb, le-ltb, leb-true, leb-false}
+use Rattle.rules.specs.Joined.{codes}
 use mathlib.Core.Path.{◌≡◌, refl, sym, ap, ◌∙◌}
 use mathlib.Core.Bool.{Bool, true, false, cond}
 use mathlib.Core.List.{List, [], ◌∷◌}
-use lib.Dec.{ltb, eqb}
+use lib.Dec.{ltb, leb, eqb}
 use lib.ListN.{length, take, drop, get_or, drop_of_length-le}
-use lib.Seq.{drop-cons, drop-drop, get_or-drop}
+use lib.Seq.{drop-cons, drop-drop, get_or-drop, take_all}
 use Rattle.rules.specs.Record.{Rec}
 use Rattle.rules.specs.Afterwards.{record_in, records_in}
-use Rattle.page.specs.Page.{page, writes, Wrote}
+use Rattle.page.specs.declared.Writer.{Writer}
+use Rattle.page.specs.Page.{page, writes, Wrote, Added}
 use Rattle.json_text.specs.Text.{comma, text, lines}
 use Rattle.sarif_log.specs.Log.{nonzeros, index_of, result, results, rule, if_any, rules}
 use Rattle.sarif_log.specs.Pieces.{rule_line}
@@ -64,6 +67,26 @@ nonzeros_past [] (suc j) (suc k) h l = refl
 nonzeros_past (n ∷ ns) zero k h l = absurd (omega arith)
 nonzeros_past (n ∷ ns) (suc j) zero h l = absurd (omega arith)
 nonzeros_past (n ∷ ns) (suc j) (suc k) h l = ap (λ (x : ℕ). cond (ltb 0 n) 1 0 + x) (nonzeros_past ns j k (omega arith) (omega arith))
+
+pub counts_on : (e : List ℕ) (k i i' : ℕ) → k < length e → i ≡ nonzeros (take k e) → i' ≡ i + cond (ltb 0 (get_or e k 0)) 1 0
+    → i' ≡ nonzeros (take (k + 1) e)
+counts_on e k i i' h p q = q ∙ ap (λ (x : ℕ). x + cond (ltb 0 (get_or e k 0)) 1 0) p ∙ sym (rw (← add-one) at (nonzeros_next e k h))
+
+-- all of the first b counts, b as many as there are before the code
+pub index_met : (tally : List ℕ) (code b k i : ℕ) → length tally ≤ codes → b ≡ min (code - 1) codes → length (take b tally) ≤ k
+    → i ≡ nonzeros (take k (take b tally)) → i ≡ index_of tally code
+unfolding index_of
+index_met tally code b k i l e h q =
+    q ∙ ap nonzeros (take_all k (take b tally) h) ∙ go (leb (code - 1) codes) refl
+  where
+    go : (x : Bool) → leb (code - 1) codes ≡ x → nonzeros (take b tally) ≡ nonzeros (take (code - 1) tally)
+    go true r = let z : b ≡ code - 1 = omega (arith, leb-true (code - 1) codes r) in rw z
+    go false r = let m = leb-false (code - 1) codes r in nonzeros_past tally b (code - 1) (omega arith) (omega arith)
+
+-- what a writer that began with an empty page has written
+pub from_start : {w w' : Writer} {o : List ℕ} {k : ℕ} {f : List ℕ → List ℕ} → w.out.now ≡ o → w.count ≡ 0 → Added w w' k f
+    → Wrote o 0 w'.out.now w'.count k f
+from_start p q a = rw (p, q) at a.wrote
 
 -- ---- the rules from a code on
 

@@ -24,8 +24,6 @@ use Rattle.tree.proofs.ValueLaws.{offset_next, offset_later}
 use Rattle.base.proofs.Bools.{and_left}
 use Rattle.rules.specs.Codes.{short_name}
 use Rattle.json_text.specs.Escape.{escape, hexes}
-use Rattle.codes.specs.Named.{named}
-use Rattle.codes.specs.declared.ShortName.{ShortName}
 use Rattle.sarif_log.specs.Words.{shown, value_of}
 use Rattle.sarif_log.proofs.Plainly.{shown_text, shown_number}
 use Rattle.sarif_log.specs.Pieces.{Here, Small}
@@ -98,24 +96,3 @@ module _ (t : List ℕ) (o n : ℕ) (h : Here t o) (b : n ≡ u16_at t (o + 1)) 
 
   pub number_short : 2 * length (take (o + 3 + n - (o + 3)) (drop (o + 3) t)) ≤ 1530
   number_short = let l = part_short in omega arith
-
--- ---- short names
-
-pub take_front : (s r : List ℕ) → take (length s) (s ++ r) ≡ s
-take_front [] r = refl
-take_front (x ∷ s) r = ap (λ (l : List ℕ). x ∷ l) (take_front s r)
-
--- the bytes of a short name, as the code has them
-module _ (s : ShortName) (c : ℕ) (e : s ≡ named (short_name c)) where
-  pub named_bytes : take s.length s.bytes ≡ short_name c
-  named_bytes =
-      ap (λ (x : ShortName). take x.length x.bytes) e ∙ take_front (short_name c) (replicate (26 - length (short_name c)) 0)
-
-  pub named_long : s.length ≡ length (take s.length s.bytes)
-  named_long = ap (λ (x : ShortName). x.length) e ∙ sym (ap (λ (l : List ℕ). length l) named_bytes)
-
-  pub named_fits : s.length ≤ length s.bytes
-  named_fits =
-      let a : s.length ≡ length (short_name c) = ap (λ (x : ShortName). x.length) e in
-      let b : length s.bytes ≡ length (short_name c ++ replicate (26 - length (short_name c)) 0) = ap (λ (x : ShortName). length x.bytes) e in
-      omega (arith, length-append (short_name c) (replicate (26 - length (short_name c)) 0))

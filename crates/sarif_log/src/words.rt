@@ -1,83 +1,99 @@
-// The words of a log's messages, one after another, and where each begins: specs/Words is their table.
-ghost use Rattle.std.specs.Prelude.{◌++◌, ◌+◌, ◌-◌, ◌≤◌, ◌<◌, length, take, drop, get_or};
-ghost use Rattle.page.specs.Page.{Wrote};
-ghost use Rattle.sarif_log.specs.Words.{reason as reason_of, phrase, kind_word};
+// The words of a log's messages: specs/Words is their table.
+ghost use Rattle.std.specs.Prelude.{◌≡◌, [], ◌++◌, ◌≤◌, length, MatchOption};
+ghost use Rattle.base.specs.Ascii.{ascii};
+ghost use Rattle.rules.specs.Visit.{look};
+ghost use Rattle.tree.specs.code.Kinds.{number as kind_number};
+ghost use Rattle.rules.specs.Decoded.{number_of};
+ghost use Rattle.page.specs.Page.{Added};
+ghost use Rattle.sarif_log.specs.Words.{phrases, reasons, seconds, phrase, kind_word};
 
-use page::raw;
-use rules::LAST_CODE;
+use page::Writer;
+use rules::Code;
+use tree::kinds::ValueKind;
 
-const PHRASES: [u8; 535] = *b"Unused load of\
-    Unused assignment of\
-    Unused argument\
-    Use of unassigned variable\
-    Use of undefined variable\
-    Use of potentially undefined variable\
-    This return lacks an expression, which is wanted by function\
-    No return at the end of function\
-    Unreachable statement\
-    Redundant return at the end of a function\
-    Redundant continue at the end of a loop\
-    A load statement not at the top of the file\
-    Statement has no effect\
-    Incompatible check of a type against\
-    Duplicate top-level assignment of\
-    Duplicate dictionary key\
-    Statement that does nothing or fails: variable";
-
-// That of code c begins at the c-th; no words are said of 0.
-const PHRASES_AT: [usize; 19] = [
-    0, 0, 14, 34, 49, 75, 100, 137, 197, 229, 250, 291, 330, 373, 396, 432, 465, 489, 535,
-];
-
-const REASONS: [u8; 55] = *b", the same key again:\
-    , the same number in another form:";
-
-const REASONS_AT: [usize; 4] = [0, 0, 21, 55];
-
-const KINDS: [u8; 43] = *b"  string  bytes  integer 0x float of bytes ";
-
-const KINDS_AT: [usize; 6] = [0, 1, 9, 16, 27, 43];
-
-// Word k of a text, from where it begins to where the next does.
-fn word(out: &mut [u8], n: usize, text: &[u8], begins: &[usize], k: usize) -> usize
-    requires { (k + 1 < length begins.now) × (get_or begins.now k 0 ≤ get_or begins.now (k + 1) 0) × (get_or begins.now (k + 1) 0 ≤ length text.now) }
-    ensures { Wrote out.old n out.new result (length text.now) (λ rest. take (get_or begins.now (k + 1) 0 - get_or begins.now k 0) (drop (get_or begins.now k 0) text.now) ++ rest) }
+// What is said of a code, before its value.
+fn phrase_words(code: Code) -> &'static [u8]
+    ensures { result.now ≡ ascii (look (number_of code) phrases "") }
 {
-    let begin = begins[k];
-    let end = begins[k + 1];
-    raw(out, n, &text[begin..end])
+    match code {
+        Code::UnusedLoad => b"Unused load of",
+        Code::UnusedAssign => b"Unused assignment of",
+        Code::UnusedArgument => b"Unused argument",
+        Code::UsingUnassigned => b"Use of unassigned variable",
+        Code::UsingUndefined => b"Use of undefined variable",
+        Code::UsingMaybeUndefined => b"Use of potentially undefined variable",
+        Code::MissingReturnExpression =>
+            b"This return lacks an expression, which is wanted by function",
+        Code::MissingReturn => b"No return at the end of function",
+        Code::Unreachable => b"Unreachable statement",
+        Code::RedundantReturn => b"Redundant return at the end of a function",
+        Code::RedundantContinue => b"Redundant continue at the end of a loop",
+        Code::MisplacedLoad => b"A load statement not at the top of the file",
+        Code::NoEffect => b"Statement has no effect",
+        Code::IncompatibleTypeCheck => b"Incompatible check of a type against",
+        Code::DuplicateTopLevelAssign => b"Duplicate top-level assignment of",
+        Code::DuplicateKey => b"Duplicate dictionary key",
+        Code::IdentAsStatement => b"Statement that does nothing or fails: variable",
+    }
 }
 
-// Why two keys are equal, of code 16 alone.
-fn why(out: &mut [u8], n: usize, code: u32, reason: u32) -> usize
-    ensures { Wrote out.old n out.new result 34 (λ rest. reason_of code reason ++ rest) }
+// Why two keys are equal.
+fn reason_words(reason: u32) -> &'static [u8]
+    ensures { result.now ≡ ascii (look reason reasons "") }
 {
-    if code != 16 {
-        return n;
+    match reason {
+        1 => b", the same key again:",
+        2 => b", the same number in another form:",
+        _ => b"",
     }
-    if 2 < reason {
-        return n;
-    }
-    word(out, n, &REASONS, &REASONS_AT, reason as usize)
 }
 
-// What is said of a code, before its value. No number above the last code is one.
-pub fn phrase(out: &mut [u8], n: usize, code: u32, reason: u32) -> usize
-    ensures { Wrote out.old n out.new result 60 (λ rest. phrase code reason ++ rest) }
+// What is said of a code, before its value, and of code 16 why the keys are equal. Of a number that is no code's nothing is said.
+pub fn phrase(w: &mut Writer<'_>, code: u32, reason: u32)
+    ensures { Added w.old w.new 60 (λ rest. phrase code reason ++ rest) }
 {
-    if LAST_CODE < code {
-        return n;
+    if let Ok(known) = Code::try_from(code) {
+        w.raw(phrase_words(known));
+        if code == Code::DuplicateKey as u32 {
+            w.raw(reason_words(reason));
+        }
     }
-    let a = word(out, n, &PHRASES, &PHRASES_AT, code as usize);
-    why(out, a, code, reason)
 }
 
-// A value's kind, with the spaces around it.
-pub fn kind_word(out: &mut [u8], n: usize, kind: usize) -> usize
-    ensures { Wrote out.old n out.new result 16 (λ rest. kind_word kind ++ rest) }
+// A kind of value, with the spaces around it.
+fn kind_words(kind: ValueKind) -> &'static [u8]
+    ensures { result.now ≡ kind_word (kind_number kind) }
 {
-    if 4 < kind {
-        return n;
+    match kind {
+        ValueKind::Name => b" ",
+        ValueKind::String => b" string ",
+        ValueKind::Bytes => b" bytes ",
+        ValueKind::Integer => b" integer 0x",
+        ValueKind::Float => b" float of bytes ",
     }
-    word(out, n, &KINDS, &KINDS_AT, kind)
+}
+
+pub fn kind_word(w: &mut Writer<'_>, kind: usize)
+    ensures { Added w.old w.new 16 (λ rest. kind_word kind ++ rest) }
+{
+    if let Ok(kind) = ValueKind::try_from(kind) {
+        w.raw(kind_words(kind));
+    }
+}
+
+// What a second span is, where the code has one.
+pub fn second_words(code: u32) -> Option<&'static [u8]>
+    ensures { MatchOption result (ascii (look code seconds "") ≡ []) (λ s. (s.now ≡ ascii (look code seconds "")) × (1 ≤ length s.now)) }
+{
+    if code == Code::MissingReturnExpression as u32 {
+        Some(b"the function")
+    } else if code == Code::MissingReturn as u32 {
+        Some(b"why the function wants a value")
+    } else if code == Code::DuplicateTopLevelAssign as u32 {
+        Some(b"first defined here")
+    } else if code == Code::DuplicateKey as u32 {
+        Some(b"the equal key after it")
+    } else {
+        None
+    }
 }

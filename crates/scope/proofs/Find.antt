@@ -1,13 +1,17 @@
 -- Laws of searches among nodes. Assumes nothing.
 use Prim.Native.Nat.{ℕ, ◌+◌, ◌≤◌, ◌<◌}
-use mathlib.Core.Path.{◌≡◌}
-use mathlib.Core.Bool.{true, false}
+use mathlib.Core.Path.{◌≡◌, refl}
+use mathlib.Core.Bool.{Bool, true, false}
 use mathlib.Core.List.{List}
+use native.Mathlib.Omega.{arith}
+use borrow.Author.Tests.{lt-ltb}
+use Rattle.std.specs.Prelude.{Some, None}
+use Rattle.tree.specs.Bytes.{pick}
 use Rattle.tree.specs.Forest.{node_spot}
 use Rattle.rules.proofs.Bools.{so}
 use Rattle.rules.proofs.Spots.{same_exact}
 use Rattle.scope.specs.State.{node_in}
-use Rattle.scope.specs.Words.{alike_at, find_in}
+use Rattle.scope.specs.Words.{alike_at, find_in, found_in, is_in}
 use Rattle.scope.specs.declared.table.Like.{Like}
 use Rattle.scope.specs.declared.table.Like.TheVariants.{Spot}
 use Rattle.scope.proofs.Lists.{seek_hit, seek_miss, seek_end, seek_below}
@@ -25,7 +29,28 @@ module _ (t w : List ℕ) (how : Like) (i : ℕ) where
   unfolding find_in
   find_miss a b h q = seek_miss (λ k. alike_at t how i (node_in w k)) a b h q
 
+  -- what the search answered says of the place
+  pub found_some : (a b p : ℕ) → Some p ≡ found_in t w how a b i → (is_in t w how a b i ≡ true) × (find_in t w how a b i ≡ p)
+  found_some a b p e = go (is_in t w how a b i) refl e
+    where
+      go : (x : Bool) → is_in t w how a b i ≡ x → Some p ≡ pick x (Some (find_in t w how a b i)) None
+          → (is_in t w how a b i ≡ true) × (find_in t w how a b i ≡ p)
+      go true q z = (q, cc)
+      go false q z = cc
+
+  pub found_none : (a b : ℕ) → None ≡ found_in t w how a b i → is_in t w how a b i ≡ false
+  found_none a b e = go (is_in t w how a b i) refl e
+    where
+      go : (x : Bool) → is_in t w how a b i ≡ x → None ≡ pick x (Some (find_in t w how a b i)) None → is_in t w how a b i ≡ false
+      go true q z = cc
+      go false q z = q
+
 -- a node is found no later than it stands
 pub find_self : (t w : List ℕ) (j a b : ℕ) → a ≤ j → j < b → find_in t w Spot a b (node_in w j) ≤ j
 unfolding find_in alike_at
 find_self t w j a b h k = seek_below (λ m. alike_at t Spot (node_in w j) (node_in w m)) a b j h k (so _ (same_exact (node_spot t (node_in w j))))
+
+pub found_self : (t w : List ℕ) (j a b : ℕ) → a ≤ j → j < b → found_in t w Spot a b (node_in w j) ≡ Some (find_in t w Spot a b (node_in w j))
+found_self t w j a b h k =
+    let z = find_self t w j a b h k in
+    rw (lt-ltb (find_in t w Spot a b (node_in w j)) b (omega arith))

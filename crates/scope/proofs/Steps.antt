@@ -3,7 +3,7 @@ use Prim.Native.Nat.{ℕ, zero, suc, ◌+◌, ◌-◌, ◌≤◌, ◌<◌}
 use native.Mathlib.Omega.{arith}
 use native.Mathlib.Decide.{dec_lt}
 use mathlib.Core.Path.{◌≡◌, refl, sym, subst, ◌∙◌}
-use mathlib.Core.Bool.{Bool, true, false}
+use mathlib.Core.Bool.{Bool, true, false, and-false}
 use mathlib.Core.List.{List}
 use lib.Dec.{eqb, ltb}
 use lib.ListN.{get_or, set}
@@ -45,6 +45,32 @@ module _ (t w : List ℕ) (n code i : ℕ) where
   pub warn_full : 3072 + n ≤ find_in t w Spot 3072 (3072 + n) i → 1024 ≤ n → (n ≡ warn_count t w n i) × (w ≡ warn_words t w n code i)
   unfolding warn_count warn_words
   warn_full h k = (rw (le-ltb (find_in t w Spot 3072 (3072 + n) i) (3072 + n) h, le-ltb n 1024 k), rw (le-ltb (find_in t w Spot 3072 (3072 + n) i) (3072 + n) h, le-ltb n 1024 k))
+
+-- a warning as the code adds it: the node joins the list of warnings, and where it is new its code stands beside it
+pub warn_joins : (t w : List ℕ) (n code i e : ℕ) (v : List ℕ) → n ≤ 1024 → e ≡ join_end t w 3072 (3072 + n) 4096 i → v ≡ join_words t w 3072 (3072 + n) 4096 i
+    → (e - 3072 ≡ warn_count t w n i) × (e - 3072 ≤ 1024) × (3072 + n < e → set v (4096 + n) code ≡ warn_words t w n code i) × (e ≤ 3072 + n → v ≡ warn_words t w n code i)
+warn_joins t w n code i e v l p q = go (dec_lt (find_in t w Spot 3072 (3072 + n) i) (3072 + n)) (dec_lt n 1024)
+  where
+    go : Dec (find_in t w Spot 3072 (3072 + n) i < 3072 + n) → Dec (n < 1024)
+        → (e - 3072 ≡ warn_count t w n i) × (e - 3072 ≤ 1024) × (3072 + n < e → set v (4096 + n) code ≡ warn_words t w n code i) × (e ≤ 3072 + n → v ≡ warn_words t w n code i)
+    go (yes h) k =
+        let j = join_there t w 3072 (3072 + n) 4096 i h in
+        let m = warn_there t w n code i h in
+        let d : e ≡ 3072 + n = p ∙ sym j.0 in
+        let s : e - 3072 ≡ n = omega arith in
+        (s ∙ m.0, omega arith, λ z. absurd (omega arith), λ z. q ∙ sym j.1 ∙ m.1)
+    go (no h) (yes k) =
+        let j = join_new t w 3072 (3072 + n) 4096 i (omega arith) (omega arith) in
+        let m = warn_more t w n code i (omega arith) k in
+        let d : e ≡ 3072 + n + 1 = p ∙ sym j.0 in
+        let s : e - 3072 ≡ n + 1 = omega arith in
+        (s ∙ m.0, omega arith, λ z. rw (q, ← j.1) m.1, λ z. absurd (omega arith))
+    go (no h) (no k) =
+        let j = join_full t w 3072 (3072 + n) 4096 i (omega arith) (omega arith) in
+        let m = warn_full t w n code i (omega arith) (omega arith) in
+        let d : e ≡ 3072 + n = p ∙ sym j.0 in
+        let s : e - 3072 ≡ n = omega arith in
+        (s ∙ m.0, omega arith, λ z. absurd (omega arith), λ z. q ∙ sym j.1 ∙ m.1)
 
 module _ (t w : List ℕ) (s : Scope) (i : ℕ) where
   pub added_there : find_in t w TheSetting s.first s.settings i < s.settings → (s ≡ added_scope t w s i) × (w ≡ added_words t w s i)
@@ -198,6 +224,10 @@ module _ (t : List ℕ) (held : Bool) (i : ℕ) where
   pub spared_held : unused (sort_of (kind_at t i)) ≡ 2 → underscored (table_of t) (value_at t i) ≡ false → held ≡ spared_at t true held i
   unfolding spared_at
   spared_held e u = rw (eq-eqb (unused (sort_of (kind_at t i))) 2 e, u)
+
+  pub spared_other : held ≡ false → false ≡ spared_at t true held i
+  unfolding spared_at
+  spared_other e = rw (e, and-false, and-false)
 
   pub spared_below : underscored (table_of t) (value_at t i) ≡ spared_at t false held i
   unfolding spared_at

@@ -1,5 +1,5 @@
 -- The steps of the methods on the words and the entries, as the code takes them: proofs/ has what they do to the house. Assumes nothing.
-use Rattle.std.specs.Prelude.{ℕ, zero, suc, ◌+◌, ◌-◌, Bool, true, false, ◌&&◌, ◌||◌, not, List, eqb, ltb, get_or, set, replicate}
+use Rattle.std.specs.Prelude.{ℕ, zero, suc, ◌+◌, ◌-◌, Bool, true, false, ◌&&◌, ◌||◌, not, List, Option, Some, None, eqb, ltb, get_or, set, replicate}
 use Rattle.tree.specs.Bytes.{pick, kind_at, value_at, global_count}
 use Rattle.tree.specs.Forest.{node_spot}
 use Rattle.tree.specs.Table.{table_of, underscored, is_global}
@@ -32,6 +32,9 @@ find_in t w how a b i = seek (λ k. alike_at t how i (node_in w k)) a b
 
 abbrev pub is_in : List ℕ → List ℕ → Like → ℕ → ℕ → ℕ → Bool
 is_in t w how a b i = ltb (find_in t w how a b i) b
+
+abbrev pub found_in : List ℕ → List ℕ → Like → ℕ → ℕ → ℕ → Option ℕ
+found_in t w how a b i = pick (is_in t w how a b i) (Some (find_in t w how a b i)) None
 
 -- node i joins the list from a up to b, unless its pair is there or the list is at its end
 unfoldable pub join_words : List ℕ → List ℕ → ℕ → ℕ → ℕ → ℕ → List ℕ

@@ -1,14 +1,15 @@
 // The words of the work room: lists of node numbers, and searches in them.
-ghost use Rattle.std.specs.Prelude.{◌≡◌, ◌+◌, ◌<◌, ◌≤◌, eqb, get_or, set};
+ghost use Rattle.std.specs.Prelude.{◌≡◌, ◌+◌, ◌<◌, ◌≤◌, IfSome, eqb, get_or, set};
 ghost use Rattle.tree.specs.Bytes.{value_at};
 ghost use Rattle.tree.specs.Forest.{node_spot};
 ghost use Rattle.rules.specs.Names.{same, unused};
 ghost use Rattle.rules.specs.code.Marks.{same_setting};
-ghost use Rattle.rules.specs.Outcome.{work_words};
 ghost use Rattle.scope.specs.State.{sort_of};
-ghost use Rattle.scope.specs.Words.{setting_at, alike_at, find_in, join_words, join_end, warn_words, warn_count};
+ghost use Rattle.scope.specs.Words.{setting_at, alike_at, found_in, is_in, join_words, join_end, warn_words, warn_count};
 
-use tree::bytes::{begin_at, end_at, kind_at, value_at, widen};
+use rules::Code;
+use tree::bytes::{begin_at, end_at, kind_at, value_at};
+use tree::kinds::Kind;
 
 // By place, from 0 on: the node of a setting. From USED and BASE on: whether it is used, and the first place of its scope.
 pub(crate) const USED: usize = 1024;
@@ -25,8 +26,17 @@ pub(crate) const LOOSE: usize = 6144;
 
 pub(crate) const ENDS: usize = 13312;
 
-// How two nodes are alike: by name, by name and span, or by these and the sort of setting.
+// The places, or words, from `from` up to `to`.
 #[derive(Clone, Copy)]
+pub(crate) struct Places {
+    pub(crate) from: usize,
+    pub(crate) to: usize,
+    ghost in_order: { from ≤ to },
+    ghost in_words: { to ≤ 13312 },
+}
+
+// How two nodes are alike: by name, by name and span, or by these and the sort of setting.
+#[derive(Clone, Copy, Debug, PartialEq, Eq)]
 pub enum Like {
     Name,
     Spot,
@@ -37,10 +47,7 @@ pub enum Like {
 pub fn word_at(w: &[u16], k: usize) -> usize
     ensures { (result ≡ get_or w.now k 0) × (result < 65536) }
 {
-    if k < w.len() {
-        return widen(w[k]);
-    }
-    0
+    w.get(k).map_or(0, |v| usize::from(*v))
 }
 
 // A word is set, if it is there.
@@ -57,13 +64,13 @@ pub fn store(w: &mut [u16], k: usize, v: usize)
 pub(crate) fn code_of(k: usize) -> usize
     ensures { result ≡ unused (sort_of k) }
 {
-    if k == 47 {
-        return 1;
+    if k == Kind::LoadedName as usize {
+        Code::UnusedLoad as usize
+    } else if k == Kind::NamedParameter as usize {
+        Code::UnusedArgument as usize
+    } else {
+        Code::UnusedAssign as usize
     }
-    if k == 43 {
-        return 3;
-    }
-    2
 }
 
 pub(crate) fn same_name(t: &[u8], a: usize, b: usize) -> bool
@@ -75,22 +82,15 @@ pub(crate) fn same_name(t: &[u8], a: usize, b: usize) -> bool
 pub fn same_spot(t: &[u8], a: usize, b: usize) -> bool
     ensures { result ≡ same (node_spot t.now a) (node_spot t.now b) }
 {
-    if value_at(t, a) != value_at(t, b) {
-        return false;
-    }
-    if begin_at(t, a) != begin_at(t, b) {
-        return false;
-    }
-    end_at(t, a) == end_at(t, b)
+    value_at(t, a) == value_at(t, b)
+        && begin_at(t, a) == begin_at(t, b)
+        && end_at(t, a) == end_at(t, b)
 }
 
 pub(crate) fn same_setting(t: &[u8], a: usize, b: usize) -> bool
     ensures { result ≡ same_setting (setting_at t.now a) (setting_at t.now b) }
 {
-    if code_of(kind_at(t, a)) != code_of(kind_at(t, b)) {
-        return false;
-    }
-    same_spot(t, a, b)
+    code_of(kind_at(t, a)) == code_of(kind_at(t, b)) && same_spot(t, a, b)
 }
 
 fn alike(t: &[u8], how: Like, a: usize, b: usize) -> bool
@@ -103,35 +103,36 @@ fn alike(t: &[u8], how: Like, a: usize, b: usize) -> bool
     }
 }
 
-// The first place from a up to b of a node that is like node i, or b.
-pub(crate) fn find(t: &[u8], w: &[u16], how: Like, a: usize, b: usize, i: usize) -> usize
-    requires { (a ≤ b) × (b ≤ work_words) }
-    ensures { (result ≡ find_in t.now w.now how a b i) × (result ≤ b) }
+// The first of the places of a node that is like node i.
+pub(crate) fn find(t: &[u8], w: &[u16], how: Like, at: Places, i: usize) -> Option<usize>
+    ensures place { result ≡ found_in t.now w.now how at.from at.to i }
+    ensures within { IfSome result (λ p. p < at.to) }
 {
-    let mut j = a;
-    while j < b {
+    for j in at.from..at.to {
         if alike(t, how, i, word_at(w, j)) {
-            return j;
+            return Some(j);
         }
-        j += 1;
     }
-    j
+    None
 }
 
-// Node i joins the list from a up to b, unless its pair is there or the list has come to its end: the new end.
-pub(crate) fn join_list(t: &[u8], w: &mut [u16], a: usize, b: usize, end: usize, i: usize) -> usize
-    requires { (a ≤ b) × (b ≤ work_words) × (i < 65536) }
-    ensures { (result ≡ join_end t.now w.old a b end i) × (w.new ≡ join_words t.now w.old a b end i) × (b ≤ result) × (result ≤ b + 1) }
+// Whether there is one.
+pub(crate) fn has(t: &[u8], w: &[u16], how: Like, at: Places, i: usize) -> bool
+    ensures { result ≡ is_in t.now w.now how at.from at.to i }
 {
-    let p = find(t, w, Like::Spot, a, b, i);
-    if p < b {
-        return b;
+    find(t, w, how, at, i).is_some()
+}
+
+// Node i joins the list at these places, unless its pair is there or the list has come to its end: where it ends after that.
+pub(crate) fn join_list(t: &[u8], w: &mut [u16], at: Places, end: usize, i: usize) -> usize
+    requires { i < 65536 }
+    ensures { (result ≡ join_end t.now w.old at.from at.to end i) × (w.new ≡ join_words t.now w.old at.from at.to end i) × (at.to ≤ result) × (result ≤ at.to + 1) }
+{
+    if has(t, w, Like::Spot, at, i) || end <= at.to {
+        return at.to;
     }
-    if b < end {
-        store(w, b, i);
-        return b + 1;
-    }
-    b
+    store(w, at.to, i);
+    at.to + 1
 }
 
 // One more warning, unless its pair is warned: the new count.
@@ -139,15 +140,13 @@ pub(crate) fn warn(t: &[u8], w: &mut [u16], n: usize, code: usize, i: usize) -> 
     requires { (n ≤ 1024) × (code < 65536) × (i < 65536) }
     ensures { (result ≡ warn_count t.now w.old n i) × (w.new ≡ warn_words t.now w.old n code i) × (result ≤ 1024) }
 {
-    let e = WARN + n;
-    let p = find(t, w, Like::Spot, WARN, e, i);
-    if p < e {
-        return n;
-    }
-    if n < 1024 {
-        store(w, e, i);
+    let warned = Places {
+        from: WARN,
+        to: WARN + n,
+    };
+    let end = join_list(t, w, warned, CODE, i);
+    if warned.to < end {
         store(w, CODE + n, code);
-        return n + 1;
     }
-    n
+    end - WARN
 }

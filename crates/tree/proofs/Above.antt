@@ -130,3 +130,10 @@ in_above t i j (suc m) h l = go (dec_lt i (m + size_at t m)) (dec_lt j m) (in_ab
 pub parent_above : (t : List ℕ) (i j : ℕ) → i < j + size_at t j → j < i → j ≤ parent_of t i
 unfolding parent_of
 parent_above t i j h l = in_above t i j i h l
+
+pub from_root : (t : List ℕ) (i : ℕ) → (0 < i → parent_in t i (0 + 1) ≡ parent_of t i) → 0 ≡ parent_of t i
+from_root t i h = go (dec_lt 0 i)
+  where
+    go : Dec (0 < i) → 0 ≡ parent_of t i
+    go (yes l) = sym (at_zero t i) ∙ h l
+    go (no l) = let q : i ≡ 0 = omega arith in rw q (sym (parent_zero t))

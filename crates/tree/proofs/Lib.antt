@@ -43,3 +43,4 @@ pub mod Agree
 pub mod Versions
 pub mod Releases
 pub mod FirstChild
+pub mod Judges

@@ -111,6 +111,13 @@ module _ (t : List ℕ) (n nv : ℕ) (none : None5 t n nv) where
       go (yes b) = let o = other_above v a b in let p = formed_kind t (offset t n v) (sym (formed_from t (offset t n v)) ∙ well_formed v b) in simp (lt-ltb _ _ b, le-leb 1 (kind_of t (offset t n v)) (omega arith), le-leb (kind_of t (offset t n v)) 4 (omega arith))
       go (no b) = simp (le-ltb v nv (omega arith))
 
+  pub literal_test : (v : ℕ) → is_literal_at t n nv v ≡ (leb (names_of t n nv) v && ltb v nv)
+  literal_test v = go (dec_lt v (names_of t n nv))
+    where
+      go : Dec (v < names_of t n nv) → is_literal_at t n nv v ≡ (leb (names_of t n nv) v && ltb v nv)
+      go (yes a) = literal_low v a ∙ simp (lt-leb (names_of t n nv) v a)
+      go (no a) = let h : names_of t n nv ≤ v = omega arith in literal_high v h ∙ simp (le-leb (names_of t n nv) v h)
+
   -- 9, by the number of names
   pub nine_none : (i : ℕ) → names_of t n nv ≤ global_at t n nv i → bad9 t n nv i ≡ true
   unfolding bad9

@@ -2,9 +2,11 @@
 use Prim.Native.Nat.{ℕ, zero, suc, ◌+◌, ◌-◌, ◌≤◌, ◌<◌}
 use native.Mathlib.Omega.{arith}
 use native.Mathlib.Decide.{dec_lt}
-use mathlib.Core.Path.{◌≡◌, refl}
+use mathlib.Core.Path.{◌≡◌, refl, sym}
 use mathlib.Core.Bool.{Bool, true, false, not}
 use Rattle.tree.specs.Search.{first, lowest}
+use Rattle.tree.specs.declared.Refusal.{Refusal}
+use Rattle.tree.specs.code.Stages.{Lowest}
 
 pub clash : {A : Type 0} {b : Bool} → b ≡ true → b ≡ false → A
 clash p q = let z : ◌≡◌ {A = ℕ} 0 1 = cc in absurd (omega arith)
@@ -69,3 +71,25 @@ lowest_le n f = omega (arith, first_le n 0 f)
 pub not_so : (b : Bool) → not b ≡ false → b ≡ true
 not_so true e = refl
 not_so false e = clash refl e
+
+pub not_this : (b : Bool) → not b ≡ true → b ≡ false
+not_this true e = sym e
+not_this false e = refl
+
+-- going up from place to place: none before i is wrong
+pub clear_here : (n i : ℕ) (f : ℕ → Bool) → i < n → i ≤ lowest n f → f i ≡ true → lowest n f ≡ i
+clear_here n i f h l e = go (dec_lt i (lowest n f))
+  where
+    go : Dec (i < lowest n f) → lowest n f ≡ i
+    go (yes a) = clash e (lowest_clear n f i a)
+    go (no a) = omega arith
+
+pub clear_more : (n i : ℕ) (f : ℕ → Bool) → i < n → i ≤ lowest n f → f i ≡ false → i + 1 ≤ lowest n f
+clear_more n i f h l e = go (dec_lt i (lowest n f))
+  where
+    go : Dec (i < lowest n f) → i + 1 ≤ lowest n f
+    go (yes a) = omega arith
+    go (no a) = let q : lowest n f ≡ i = omega arith in clash (rw q at (lowest_hit n f (omega arith))) e
+
+pub lowest_at : (why : ℕ → Refusal) (n i : ℕ) (f : ℕ → Bool) → i < n → i ≤ lowest n f → f i ≡ true → Lowest why n f (why i)
+lowest_at why n i f h l e = let q = clear_here n i f h l e in record { below = omega (arith, q); is = rw q refl }

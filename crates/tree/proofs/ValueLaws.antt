@@ -2,9 +2,11 @@
 use Prim.Native.Nat.{ℕ, zero, suc, ◌+◌, ◌-◌, ◌≤◌, ◌<◌}
 use native.Mathlib.Omega.{arith}
 use native.Mathlib.Numerals.{add-one}
-use mathlib.Core.Path.{◌≡◌, refl}
+use native.Mathlib.Decide.{dec_lt}
+use mathlib.Core.Path.{◌≡◌, refl, sym, ◌∙◌}
 use mathlib.Core.List.{List}
 use mathlib.Core.Bool.{true, false}
+use lib.Dec.{ltb}
 use lib.ListN.{get_or}
 use borrow.Author.Tests.{lt-ltb, le-ltb}
 use Rattle.tree.specs.Bytes.{u16_at, node_at}
@@ -35,6 +37,13 @@ module _ (t : List ℕ) (k i a b : ℕ) where
   unfolding bytes_less
   less_gt h l = let q : k - i ≡ suc (k - (i + 1)) = omega arith in let w = le-ltb (get_or t (a + i) 0) (get_or t (b + i) 0) (omega arith) in rw (q, w, lt-ltb _ _ l, bytes_less)
 
+  pub less_differ : i < k → (get_or t (a + i) 0 ≡ get_or t (b + i) 0 → ⊥) → bytes_less (k - i) t (a + i) (b + i) ≡ ltb (get_or t (a + i) 0) (get_or t (b + i) 0)
+  less_differ h d = go (dec_lt (get_or t (a + i) 0) (get_or t (b + i) 0))
+    where
+      go : Dec (get_or t (a + i) 0 < get_or t (b + i) 0) → bytes_less (k - i) t (a + i) (b + i) ≡ ltb (get_or t (a + i) 0) (get_or t (b + i) 0)
+      go (yes l) = less_lt h l ∙ sym (lt-ltb _ _ l)
+      go (no l) = less_gt h (omega (arith, d)) ∙ sym (le-ltb (get_or t (a + i) 0) (get_or t (b + i) 0) (omega arith))
+
   pub less_eq : i < k → get_or t (a + i) 0 ≤ get_or t (b + i) 0 → get_or t (b + i) 0 ≤ get_or t (a + i) 0
       → bytes_less (k - (i + 1)) t (a + (i + 1)) (b + (i + 1)) ≡ bytes_less (k - i) t (a + i) (b + i)
   unfolding bytes_less
@@ -47,3 +56,7 @@ module _ (t : List ℕ) (k i a b : ℕ) where
   pub less_end : k ≤ i → bytes_less (k - i) t (a + i) (b + i) ≡ false
   unfolding bytes_less
   less_end h = let q : k - i ≡ 0 = omega arith in rw q
+
+-- from where value i starts to where the next one does
+pub offset_step : (t : List ℕ) (n i at u : ℕ) → at ≡ offset t n i → u ≡ u16_at t (at + 1) → at + (3 + u) ≡ offset t n (i + 1)
+offset_step t n i at u f e = rw offset_next (rw (← f, ← e) (omega arith))

@@ -10,3 +10,4 @@ pub mod Sound
 pub mod Halving
 pub mod Numbers
 pub mod Samples
+pub mod Kinds

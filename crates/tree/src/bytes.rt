@@ -1,22 +1,16 @@
 // Numbers and fields, read out of bytes: 0 past the end, so no reader asks anything of its caller.
-ghost use Rattle.std.specs.Prelude.{◌≡◌, ◌+◌, ◌<◌, length, get_or};
+ghost use Rattle.std.specs.Prelude.{◌≡◌, ◌+◌, ◌<◌, ◌≤◌, length, get_or};
 ghost use Rattle.tree.specs.Bytes.{stands_at, u16_at, u32_at, version_of, node_count, value_count, global_count, node_at, kind_at, role_at, size_at, begin_at, end_at, value_at, last_at};
-ghost use Rattle.tree.specs.code.Offsets.{u64_at};
-
-fn wide(x: u8) -> usize
-    ensures { (result ≡ x) × (result < 256) }
-{
-    x as usize
-}
+ghost use Rattle.tree.specs.code.Offsets.{u64_at, Place};
 
 // A byte; 0 past the end.
 pub fn byte_at(s: &[u8], at: usize) -> usize
     ensures { (result ≡ get_or s.now at 0) × (result < 256) }
 {
-    if at < s.len() {
-        return wide(s[at]);
+    match s.get(at) {
+        Some(byte) => usize::from(*byte),
+        None => 0,
     }
-    0
 }
 
 // The bytes from o on are these: the mark of a file and fixed names are compared alike.
@@ -24,12 +18,10 @@ pub(crate) fn bytes_are(t: &[u8], o: usize, name: &[u8]) -> bool
     requires { (length name.now < 65536) × (o < 4400000000) }
     ensures { result ≡ stands_at t.now o name.now }
 {
-    let mut i = 0;
-    while i < name.len() {
-        if byte_at(t, o + i) != byte_at(name, i) {
+    for (i, byte) in name.iter().enumerate() {
+        if byte_at(t, o + i) != usize::from(*byte) {
             return false;
         }
-        i += 1;
     }
     true
 }
@@ -84,77 +76,54 @@ pub fn global_count(t: &[u8]) -> usize
     u16_at(t, 9)
 }
 
+// Where node i starts; a place past the end, where the bytes end before it.
+fn start_of(t: &[u8], i: usize) -> usize
+    ensures { Place t.now (node_at i) result × (result ≤ length t.now + 27) }
+{
+    11 + 16 * i.min(t.len() / 16 + 1)
+}
+
 // Fields of node i.
-fn node_byte(t: &[u8], i: usize, k: usize) -> usize
-    requires { k < 16 }
-    ensures { (result ≡ get_or t.now (node_at i + k) 0) × (result < 256) }
-{
-    if t.len() / 16 < i {
-        return 0;
-    }
-    byte_at(t, 11 + 16 * i + k)
-}
-
-fn node_u16(t: &[u8], i: usize, k: usize) -> usize
-    requires { k < 16 }
-    ensures { (result ≡ u16_at t.now (node_at i + k)) × (result < 65536) }
-{
-    if t.len() / 16 < i {
-        return 0;
-    }
-    u16_at(t, 11 + 16 * i + k)
-}
-
-fn node_u32(t: &[u8], i: usize, k: usize) -> usize
-    requires { k < 16 }
-    ensures { (result ≡ u32_at t.now (node_at i + k)) × (result < 4294967296) }
-{
-    if t.len() / 16 < i {
-        return 0;
-    }
-    u32_at(t, 11 + 16 * i + k)
-}
-
 pub fn kind_at(t: &[u8], i: usize) -> usize
     ensures { (result ≡ kind_at t.now i) × (result < 256) }
 {
-    node_byte(t, i, 0)
+    byte_at(t, start_of(t, i))
 }
 
 pub fn role_at(t: &[u8], i: usize) -> usize
     ensures { (result ≡ role_at t.now i) × (result < 256) }
 {
-    node_byte(t, i, 1)
+    byte_at(t, start_of(t, i) + 1)
 }
 
 pub fn size_at(t: &[u8], i: usize) -> usize
     ensures { (result ≡ size_at t.now i) × (result < 65536) }
 {
-    node_u16(t, i, 2)
+    u16_at(t, start_of(t, i) + 2)
 }
 
 pub fn begin_at(t: &[u8], i: usize) -> usize
     ensures { (result ≡ begin_at t.now i) × (result < 4294967296) }
 {
-    node_u32(t, i, 4)
+    u32_at(t, start_of(t, i) + 4)
 }
 
 pub fn end_at(t: &[u8], i: usize) -> usize
     ensures { (result ≡ end_at t.now i) × (result < 4294967296) }
 {
-    node_u32(t, i, 8)
+    u32_at(t, start_of(t, i) + 8)
 }
 
 pub fn value_at(t: &[u8], i: usize) -> usize
     ensures { (result ≡ value_at t.now i) × (result < 65536) }
 {
-    node_u16(t, i, 12)
+    u16_at(t, start_of(t, i) + 12)
 }
 
 pub(crate) fn last_at(t: &[u8], i: usize) -> usize
     ensures { (result ≡ last_at t.now i) × (result < 65536) }
 {
-    node_u16(t, i, 14)
+    u16_at(t, start_of(t, i) + 14)
 }
 
 pub(crate) fn narrow(x: usize) -> u16
@@ -167,5 +136,5 @@ pub(crate) fn narrow(x: usize) -> u16
 pub fn widen(x: u16) -> usize
     ensures { (result ≡ x) × (result < 65536) }
 {
-    x as usize
+    usize::from(x)
 }

@@ -1,46 +1,44 @@
 // The children of a node: what they may be, refusal 7, and the first one of a role.
 ghost use Rattle.std.specs.Prelude.{◌≡◌, ◌+◌, ◌<◌, ◌≤◌, true};
 ghost use Rattle.tree.specs.Bytes.{size_at};
-ghost use Rattle.tree.specs.Search.{lowest};
 ghost use Rattle.tree.specs.code.Find.{first_child};
 ghost use Rattle.tree.specs.code.Packed.{digit_of, Fills};
 ghost use Rattle.tree.specs.Children.{class_of, in_class, slot_of, root_ok};
 ghost use Rattle.tree.specs.code.Kids.{kids_from, kids_stand, of_role, kids_filled, paired, kids_for_first, kids_in_order, good7, bad7, Sized};
-ghost use Rattle.tree.specs.code.Stages.{None6};
+ghost use Rattle.tree.specs.declared.Refusal.TheVariants.{Children};
+ghost use Rattle.tree.specs.code.Stages.{None6, Judges};
 
-use crate::bytes::{kind_at, role_at, size_at, widen};
+use crate::Refusal;
+use crate::bytes::{kind_at, role_at, size_at};
+use crate::kinds::{Kind, Role};
 
+// The classes of kinds; then those of a def's name, which is one kind, and of a place where nothing may stand.
+#[derive(Clone, Copy)]
+enum Class {
+    Unknown = 0,
+    Statement = 1,
+    Expression = 2,
+    Target = 3,
+    Parameter = 4,
+    Clause = 5,
+    LoadedName = 6,
+    Name = 7,
+    Nothing = 9,
+}
+
+#[tactic(auto, unfolding(crate::specs::Children::class_of))]
 fn class_of(k: usize) -> usize
     ensures { result ≡ class_of k }
 {
-    if k < 1 {
-        return 0;
+    match k {
+        1..=13 => Class::Statement as usize,
+        20..=33 => Class::Expression as usize,
+        40..=42 => Class::Target as usize,
+        43 | 44 => Class::Parameter as usize,
+        45 | 46 => Class::Clause as usize,
+        47 => Class::LoadedName as usize,
+        _ => Class::Unknown as usize,
     }
-    if k <= 13 {
-        return 1;
-    }
-    if k < 20 {
-        return 0;
-    }
-    if k <= 33 {
-        return 2;
-    }
-    if k < 40 {
-        return 0;
-    }
-    if k <= 42 {
-        return 3;
-    }
-    if k <= 44 {
-        return 4;
-    }
-    if k <= 46 {
-        return 5;
-    }
-    if k == 47 {
-        return 6;
-    }
-    0
 }
 
 // The kinds and their children, a row for each kind. The hex digit for role r, from the right, is the number of what
@@ -97,50 +95,108 @@ const ROWS: [u64; 48] = [
     0x0_0000_0000, // 47 loaded name
 ];
 
-const CLASSES: [u16; 13] = [9, 1, 1, 2, 2, 2, 2, 3, 3, 4, 5, 7, 6];
+// What may stand in one role: of which class, how many at least and at most.
+#[derive(Clone, Copy)]
+struct Form {
+    class: usize,
+    least: usize,
+    most: usize,
+}
 
-const LEAST: [u16; 13] = [0, 1, 0, 1, 0, 0, 3, 1, 0, 0, 1, 1, 0];
-
-const MOST: [u16; 13] = [0, 1, 1024, 1, 1, 1024, 3, 1, 1024, 1024, 1024, 1, 1024];
-
-const POWERS: [u64; 9] = [
-    0x1,
-    0x10,
-    0x100,
-    0x1000,
-    0x1_0000,
-    0x10_0000,
-    0x100_0000,
-    0x1000_0000,
-    0x1_0000_0000,
+// By the digits of ROWS. No file has more than 1,024 nodes: that many are any number.
+const FORMS: [Form; 13] = [
+    Form {
+        class: Class::Nothing as usize,
+        least: 0,
+        most: 0,
+    },
+    Form {
+        class: Class::Statement as usize,
+        least: 1,
+        most: 1,
+    },
+    Form {
+        class: Class::Statement as usize,
+        least: 0,
+        most: 1024,
+    },
+    Form {
+        class: Class::Expression as usize,
+        least: 1,
+        most: 1,
+    },
+    Form {
+        class: Class::Expression as usize,
+        least: 0,
+        most: 1,
+    },
+    Form {
+        class: Class::Expression as usize,
+        least: 0,
+        most: 1024,
+    },
+    Form {
+        class: Class::Expression as usize,
+        least: 3,
+        most: 3,
+    },
+    Form {
+        class: Class::Target as usize,
+        least: 1,
+        most: 1,
+    },
+    Form {
+        class: Class::Target as usize,
+        least: 0,
+        most: 1024,
+    },
+    Form {
+        class: Class::Parameter as usize,
+        least: 0,
+        most: 1024,
+    },
+    Form {
+        class: Class::Clause as usize,
+        least: 1,
+        most: 1024,
+    },
+    Form {
+        class: Class::Name as usize,
+        least: 1,
+        most: 1,
+    },
+    Form {
+        class: Class::LoadedName as usize,
+        least: 0,
+        most: 1024,
+    },
 ];
 
 // The number of what may stand in role r of kind k.
 fn slot_number(k: usize, r: usize) -> usize
     ensures { (result ≡ digit_of k r) × (result < 13) }
 {
-    if 48 <= k {
-        return 0;
+    if k < 48 && r < 9 {
+        ((ROWS[k] >> (4 * r)) % 16) as usize
+    } else {
+        0
     }
-    if 9 <= r {
-        return 0;
-    }
-    (ROWS[k] / POWERS[r] % 16) as usize
 }
 
 fn slot_class(k: usize, r: usize) -> usize
     ensures { result ≡ (slot_of k r).class }
 {
-    widen(CLASSES[slot_number(k, r)])
+    FORMS[slot_number(k, r)].class
 }
 
 fn stands(c: usize, k: usize) -> bool
     ensures { result ≡ in_class c k }
 {
-    if c == 7 {
-        return k == 40;
+    if c == Class::Name as usize {
+        k == Kind::Name as usize
+    } else {
+        class_of(k) == c
     }
-    class_of(k) == c
 }
 
 fn all_stand(t: &[u8], k: usize, from: usize, e: usize) -> bool
@@ -182,10 +238,8 @@ fn role_filled(t: &[u8], d: usize, r: usize, from: usize, e: usize) -> bool
         return true;
     }
     let m = of_role(t, r, from, e);
-    if m < widen(LEAST[d]) {
-        return false;
-    }
-    m <= widen(MOST[d])
+    let form = FORMS[d];
+    form.least <= m && m <= form.most
 }
 
 // Digit by digit while any is left of the kind's row.
@@ -213,16 +267,17 @@ fn all_paired(t: &[u8], from: usize, e: usize) -> bool
     requires { (e ≤ 1024) × Sized t.now e }
     ensures { result ≡ paired t.now 8 (kids_from t.now from e) }
 {
-    let mut w = 8;
+    let (key, value) = (Role::Key as usize, Role::Expression as usize);
+    let mut due = key;
     let mut c = from;
     while c < e {
-        if role_at(t, c) != w {
+        if role_at(t, c) != due {
             return false;
         }
-        w = 12 - w;
+        due = if due == key { value } else { key };
         c += size_at(t, c);
     }
-    w == 8
+    due == key
 }
 
 fn for_first(t: &[u8], from: usize, e: usize) -> bool
@@ -231,30 +286,29 @@ fn for_first(t: &[u8], from: usize, e: usize) -> bool
 {
     let mut c = from;
     while c < e {
-        if role_at(t, c) == 0 {
-            return kind_at(t, c) == 45;
+        if role_at(t, c) == Role::Item as usize {
+            return kind_at(t, c) == Kind::ForClause as usize;
         }
         c += size_at(t, c);
     }
     true
 }
 
+#[tactic(auto, unfolding(crate::specs::code::Kids::kids_in_order))]
 fn kids_ordered(t: &[u8], k: usize, from: usize, e: usize) -> bool
     requires { (e ≤ 1024) × Sized t.now e }
     ensures { result ≡ kids_in_order t.now k (kids_from t.now from e) }
 {
-    if k == 29 {
-        return all_paired(t, from, e);
+    if k == Kind::Dict as usize {
+        all_paired(t, from, e)
+    } else if k == Kind::ListComprehension as usize || k == Kind::DictComprehension as usize {
+        for_first(t, from, e)
+    } else {
+        true
     }
-    if k == 25 {
-        return for_first(t, from, e);
-    }
-    if k == 26 {
-        return for_first(t, from, e);
-    }
-    true
 }
 
+#[tactic(auto, unfolding(crate::specs::code::Kids::good7, crate::specs::code::Kids::kids_of))]
 fn kids_ok(t: &[u8], p: usize) -> bool
     requires { (p < 1024) × (p + size_at t.now p ≤ 1024) × Sized t.now (p + size_at t.now p) }
     ensures { result ≡ good7 t.now p }
@@ -262,42 +316,32 @@ fn kids_ok(t: &[u8], p: usize) -> bool
     let k = kind_at(t, p);
     let from = p + 1;
     let e = p + size_at(t, p);
-    if !all_stand(t, k, from, e) {
-        return false;
-    }
-    if !all_filled(t, k, from, e) {
-        return false;
-    }
-    kids_ordered(t, k, from, e)
+    all_stand(t, k, from, e) && all_filled(t, k, from, e) && kids_ordered(t, k, from, e)
 }
 
+#[tactic(auto, unfolding(crate::specs::Children::root_ok))]
 fn root_ok(t: &[u8], n: usize) -> bool
     ensures { result ≡ root_ok t.now n }
 {
-    if size_at(t, 0) != n {
-        return false;
-    }
-    if class_of(kind_at(t, 0)) != 1 {
-        return false;
-    }
-    role_at(t, 0) == 0
+    size_at(t, 0) == n
+        && class_of(kind_at(t, 0)) == Class::Statement as usize
+        && role_at(t, 0) == Role::Item as usize
 }
 
-pub(crate) fn first7(t: &[u8], n: usize, nv: usize) -> usize
+// 7: the first node whose children are wrong is refused, or the root that is no statement or not the whole file.
+pub(crate) fn check_children(t: &[u8], n: usize, nv: usize) -> Result<(), Refusal>
     requires { (1 ≤ n) × (n ≤ 1024) × None6 t.now n nv }
-    ensures { result ≡ lowest n (bad7 t.now n) }
+    ensures { Judges Children n (bad7 t.now n) result }
 {
     if !root_ok(t, n) {
-        return 0;
+        return Err(Refusal::Children(0));
     }
-    let mut i = 0;
-    while i < n {
+    for i in 0..n {
         if !kids_ok(t, i) {
-            return i;
+            return Err(Refusal::Children(i));
         }
-        i += 1;
     }
-    n
+    Ok(())
 }
 
 // The first of the siblings from node `from` up to `e` that has the role.

@@ -1,4 +1,5 @@
 // What the numbers of a node's kind and role and of a value's kind stand for. A file may hold any number: `as` gives the number to compare.
+ghost use Rattle.tree.specs.code.Kinds.{Decodes};
 
 // A node's kind: statements from 1 on, expressions from 20 on, targets, parameters and clauses from 40 on.
 #[derive(Clone, Copy, Debug, PartialEq, Eq)]
@@ -62,4 +63,25 @@ pub enum ValueKind {
     Bytes = 2,
     Integer = 3,
     Float = 4,
+}
+
+// A number that is no value's kind.
+#[derive(Clone, Copy, Debug, PartialEq, Eq)]
+pub struct UnknownKind(pub usize);
+
+impl TryFrom<usize> for ValueKind {
+    type Error = UnknownKind;
+
+    ghost try_from_gives = { Decodes };
+
+    fn try_from(number: usize) -> Result<Self, UnknownKind> {
+        match number {
+            0 => Ok(ValueKind::Name),
+            1 => Ok(ValueKind::String),
+            2 => Ok(ValueKind::Bytes),
+            3 => Ok(ValueKind::Integer),
+            4 => Ok(ValueKind::Float),
+            _ => Err(UnknownKind(number)),
+        }
+    }
 }

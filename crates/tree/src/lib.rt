@@ -8,12 +8,13 @@ ghost use Rattle.std.specs.Prelude.{◌≡◌, ◌≤◌};
 ghost use Rattle.tree.specs.Judge.{number_of, place_of, marked, versioned, limits, judged};
 ghost use Rattle.tree.specs.Keys.{reason};
 ghost use Rattle.tree.specs.Table.{listed};
-ghost use Rattle.tree.specs.code.Stages.{judged9, judged8, judged7, judged6, judged5, judged4, judged3, None5, None6};
+ghost use Rattle.tree.specs.code.Stages.{judged6, judged4, facts_at, Formed};
 
-use bytes::{bytes_are, u16_at, version_of};
-use children::first7;
-use nodes::{first6, first8, parents};
-use values::{count_names, first5, first9, offset_of};
+use bytes::{bytes_are, global_count, node_count, value_count, version_of};
+use children::check_children;
+use lookup::listed_of;
+use nodes::{check_depths, check_nodes, parents};
+use values::{check_globals, check_values, count_names, offset_of};
 
 pub mod bytes;
 pub mod children;
@@ -72,15 +73,12 @@ impl Refusal {
         ensures { result ≡ place_of self }
     {
         match self {
-            Refusal::Mark => 0,
-            Refusal::Version => 0,
-            Refusal::Counts => 0,
-            Refusal::Sections => 0,
-            Refusal::Value(i) => i,
-            Refusal::Node(i) => i,
-            Refusal::Children(i) => i,
-            Refusal::Depth(i) => i,
-            Refusal::Global(i) => i,
+            Refusal::Mark | Refusal::Version | Refusal::Counts | Refusal::Sections => 0,
+            Refusal::Value(i)
+            | Refusal::Node(i)
+            | Refusal::Children(i)
+            | Refusal::Depth(i)
+            | Refusal::Global(i) => i,
         }
     }
 }
@@ -113,147 +111,70 @@ impl Likeness {
     }
 }
 
-fn listed_of(g: usize) -> usize
-    ensures { result ≡ listed g }
+// 6 to 9, of values that are in form: what the file says of itself stands, if nothing is refused.
+fn judge_nodes(t: &[u8], f: Facts) -> Result<Facts, Refusal>
+    requires { Formed t.now f × (listed f.globals ≤ 512) × (f ≡ facts_at t.now f.nodes f.values f.globals) }
+    ensures { result ≡ judged6 t.now f.nodes f.values f.globals }
 {
-    if g == 65535 {
-        return 0;
-    }
-    g
+    let par = parents(t, f.nodes);
+    check_nodes(t, &f, &par)?;
+    check_children(t, f.nodes, f.values)?;
+    check_depths(t, f.nodes, &par)?;
+    check_globals(t, &f, listed_of(f.globals))?;
+    Ok(f)
 }
 
-fn judge9(t: &[u8], n: usize, nv: usize, g: usize) -> Result<Facts, Refusal>
-    requires { (n ≤ 1024) × (nv ≤ 512) × (listed g ≤ 512) × (1 ≤ n) × None5 t.now n nv }
-    ensures { result ≡ judged9 t.now n nv g }
+// 4 and 5, and what follows them.
+fn judge_sections(t: &[u8], nodes: usize, values: usize, globals: usize) -> Result<Facts, Refusal>
+    requires { (nodes ≤ 1024) × (values ≤ 512) × (listed globals ≤ 512) × (1 ≤ nodes) }
+    ensures { result ≡ judged4 t.now nodes values globals }
 {
-    let names = count_names(t, n, nv);
-    let at = offset_of(t, n, nv);
-    let count = listed_of(g);
-    let p = first9(t, n, nv, at, names, count);
-    if p < count {
-        return Err(Refusal::Global(p));
+    let rest = offset_of(t, nodes, values);
+    if rest + 2 * listed_of(globals) != t.len() {
+        return Err(Refusal::Sections);
     }
-    Ok(Facts {
+    check_values(t, nodes, values)?;
+    let f = Facts {
         version: version_of(t),
-        nodes: n,
-        values: nv,
-        names,
-        globals: g,
-        rest: at,
-    })
-}
-
-fn judge8(t: &[u8], n: usize, nv: usize, g: usize) -> Result<Facts, Refusal>
-    requires { (n ≤ 1024) × (nv ≤ 512) × (listed g ≤ 512) × (1 ≤ n) × None5 t.now n nv }
-    ensures { result ≡ judged8 t.now n nv g }
-{
-    let par = parents(t, n);
-    let p = first8(t, n, &par);
-    if p < n {
-        return Err(Refusal::Depth(p));
-    }
-    judge9(t, n, nv, g)
-}
-
-fn judge7(t: &[u8], n: usize, nv: usize, g: usize) -> Result<Facts, Refusal>
-    requires { (n ≤ 1024) × (nv ≤ 512) × (listed g ≤ 512) × (1 ≤ n) × None5 t.now n nv × None6 t.now n nv }
-    ensures { result ≡ judged7 t.now n nv g }
-{
-    let p = first7(t, n, nv);
-    if p < n {
-        return Err(Refusal::Children(p));
-    }
-    judge8(t, n, nv, g)
-}
-
-fn judge6(t: &[u8], n: usize, nv: usize, g: usize) -> Result<Facts, Refusal>
-    requires { (n ≤ 1024) × (nv ≤ 512) × (listed g ≤ 512) × (1 ≤ n) × None5 t.now n nv }
-    ensures { result ≡ judged6 t.now n nv g }
-{
-    let names = count_names(t, n, nv);
-    let par = parents(t, n);
-    let p = first6(t, n, nv, names, &par);
-    if p < n {
-        return Err(Refusal::Node(p));
-    }
-    judge7(t, n, nv, g)
-}
-
-fn judge5(t: &[u8], n: usize, nv: usize, g: usize) -> Result<Facts, Refusal>
-    requires { (n ≤ 1024) × (nv ≤ 512) × (listed g ≤ 512) × (1 ≤ n) }
-    ensures { result ≡ judged5 t.now n nv g }
-{
-    let p = first5(t, n, nv);
-    if p < nv {
-        return Err(Refusal::Value(p));
-    }
-    judge6(t, n, nv, g)
-}
-
-fn judge4(t: &[u8], n: usize, nv: usize, g: usize) -> Result<Facts, Refusal>
-    requires { (n ≤ 1024) × (nv ≤ 512) × (listed g ≤ 512) × (1 ≤ n) }
-    ensures { result ≡ judged4 t.now n nv g }
-{
-    if offset_of(t, n, nv) + 2 * listed_of(g) == t.len() {
-        return judge5(t, n, nv, g);
-    }
-    Err(Refusal::Sections)
+        nodes,
+        values,
+        names: count_names(t, nodes, values),
+        globals,
+        rest,
+    };
+    judge_nodes(t, f)
 }
 
 fn within(n: usize, nv: usize, g: usize) -> bool
     ensures { result ≡ limits n nv g }
 {
-    if n < 1 {
-        return false;
-    }
-    if 1024 < n {
-        return false;
-    }
-    if 512 < nv {
-        return false;
-    }
-    if g <= 512 {
-        return true;
-    }
-    g == 65535
-}
-
-fn judge3(t: &[u8], n: usize, nv: usize, g: usize) -> Result<Facts, Refusal>
-    ensures { result ≡ judged3 t.now n nv g }
-{
-    if within(n, nv, g) {
-        return judge4(t, n, nv, g);
-    }
-    Err(Refusal::Counts)
+    1 <= n && n <= 1024 && nv <= 512 && (g <= 512 || g == 65535)
 }
 
 fn has_mark(t: &[u8]) -> bool
     ensures { result ≡ marked t.now }
 {
-    if t.len() < 11 {
-        return false;
-    }
-    bytes_are(t, 0, b"SLT")
+    11 <= t.len() && bytes_are(t, 0, b"SLT")
 }
 
 fn has_version(t: &[u8]) -> bool
     ensures { result ≡ versioned t.now }
 {
-    let version = version_of(t);
-    if version == 1 {
-        return true;
-    }
-    version == 2
+    matches!(version_of(t), 1 | 2)
 }
 
 pub fn judge(t: &[u8]) -> Result<Facts, Refusal>
     ensures { result ≡ judged t.now }
 {
-    if has_mark(t) {
-        if has_version(t) {
-            return judge3(t, u16_at(t, 5), u16_at(t, 7), u16_at(t, 9));
-        }
+    if !has_mark(t) {
+        return Err(Refusal::Mark);
+    }
+    if !has_version(t) {
         return Err(Refusal::Version);
     }
-    Err(Refusal::Mark)
+    let (nodes, values, globals) = (node_count(t), value_count(t), global_count(t));
+    if !within(nodes, values, globals) {
+        return Err(Refusal::Counts);
+    }
+    judge_sections(t, nodes, values, globals)
 }

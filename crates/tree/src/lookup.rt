@@ -1,7 +1,7 @@
 // The table of values as it is looked into: fixed names by their number, traits of a value, where it starts, globals.
 // Cost: a walk over the values or the globals a call; the table of strings is 512 bytes, that of where values start 4 KiB, each filled once and
 // read by value number.
-ghost use Rattle.std.specs.Prelude.{◌≡◌, not, ◌<◌, min, eqb};
+ghost use Rattle.std.specs.Prelude.{◌≡◌, not, ◌<◌, ◌≤◌, min, eqb};
 ghost use Rattle.tree.specs.Bytes.{node_count, value_count, global_count};
 ghost use Rattle.tree.specs.Values.{value_from, offset};
 ghost use Rattle.tree.specs.Table.{listed, table_of, named_so, underscored, a_string, is_global};
@@ -126,28 +126,22 @@ pub fn globals_given(t: &[u8]) -> bool
     global_count(t) != 65535
 }
 
-// How many globals the file lists.
-fn globals_listed(t: &[u8]) -> usize
-    ensures { (result ≡ listed (global_count t.now)) × (result < 65536) }
+// How many globals a file lists, whose header has this number of them.
+pub(crate) fn listed_of(g: usize) -> usize
+    ensures { (result ≡ listed g) × (result ≤ g) }
 {
-    let g = global_count(t);
-    if g == 65535 {
-        return 0;
-    }
-    g
+    if g == 65535 { 0 } else { g }
 }
 
 pub fn is_global(t: &[u8], v: usize) -> bool
     ensures { result ≡ is_global t.now v }
 {
-    let count = globals_listed(t);
+    let count = listed_of(global_count(t));
     let from = offset_of(t, node_count(t), value_count(t));
-    let mut i = 0;
-    while i < count {
+    for i in 0..count {
         if u16_at(t, from + 2 * i) == v {
             return true;
         }
-        i += 1;
     }
     false
 }

@@ -1,27 +1,23 @@
 // The nodes one by one: their parents, refusal 6, and their depth, refusal 8.
 ghost use Rattle.std.specs.Prelude.{◌≡◌, ◌<◌, ◌≤◌};
-ghost use Rattle.tree.specs.Search.{lowest};
 ghost use Rattle.tree.specs.Nodes.{parent_of, limit_of, known, too_deep, holds_name};
-ghost use Rattle.tree.specs.code.Stages.{value_fits, good6, bad6, Parents, names_of, None5};
+ghost use Rattle.tree.specs.declared.Refusal.TheVariants.{Node, Depth};
+ghost use Rattle.tree.specs.code.Stages.{value_fits, good6, bad6, Parents, Formed, Judges};
 
-use crate::bytes::{begin_at, end_at, kind_at, last_at, narrow, size_at, value_at, widen};
+use crate::bytes::{begin_at, end_at, kind_at, last_at, size_at, value_at};
+use crate::kinds::Kind;
+use crate::{Facts, Refusal};
 
-// The nearest node before i that reaches past it.
+// The nearest node before i that reaches past it. The search goes from parent to parent, not by ones.
 fn parent_from(t: &[u8], par: &[u16; 1024], i: usize) -> usize
     requires { (i < 1024) × Parents t.now i par.now }
     ensures { (result ≡ parent_of t.now i) × (result ≤ i) }
 {
-    if i == 0 {
-        return 0;
+    let mut p = i.saturating_sub(1);
+    while 0 < p && p + size_at(t, p) <= i {
+        p = usize::from(par[p]);
     }
-    let mut p = i - 1;
-    while 0 < p {
-        if i < p + size_at(t, p) {
-            return p;
-        }
-        p = widen(par[p]);
-    }
-    0
+    p
 }
 
 pub(crate) fn parents(t: &[u8], n: usize) -> [u16; 1024]
@@ -29,136 +25,94 @@ pub(crate) fn parents(t: &[u8], n: usize) -> [u16; 1024]
     ensures { Parents t.now n result }
 {
     let mut par = [0u16; 1024];
-    let mut i = 0;
-    while i < n {
-        let p = parent_from(t, &par, i);
-        par[i] = narrow(p);
-        i += 1;
+    for i in 0..n {
+        par[i] = parent_from(t, &par, i) as u16;
     }
     par
 }
 
+#[tactic(auto, unfolding(crate::specs::Nodes::limit_of))]
 fn limit_at(t: &[u8], n: usize, par: &[u16; 1024], i: usize) -> usize
     requires { (n ≤ 1024) × (i < n) × Parents t.now n par.now }
     ensures { result ≡ limit_of t.now n i }
 {
-    if i == 0 {
+    if i == 0 || size_at(t, 0) <= i {
         return n;
     }
-    if size_at(t, 0) <= i {
-        return n;
-    }
-    let p = widen(par[i]);
+    let p = usize::from(par[i]);
     p + size_at(t, p)
 }
 
+#[tactic(auto, unfolding(crate::specs::Nodes::known))]
 fn is_known(k: usize) -> bool
     ensures { result ≡ known k }
 {
-    if k < 1 {
-        return false;
-    }
-    if k <= 13 {
-        return true;
-    }
-    if k < 20 {
-        return false;
-    }
-    if k <= 33 {
-        return true;
-    }
-    if k < 40 {
-        return false;
-    }
-    k <= 47
+    matches!(k, 1..=13 | 20..=33 | 40..=47)
 }
 
 fn has_name(k: usize) -> bool
     ensures { result ≡ holds_name k }
 {
-    if k == 20 {
-        return true;
-    }
-    if k == 40 {
-        return true;
-    }
-    if k == 43 {
-        return true;
-    }
-    if k == 47 {
-        return true;
-    }
-    false
+    k == Kind::Identifier as usize
+        || k == Kind::Name as usize
+        || k == Kind::NamedParameter as usize
+        || k == Kind::LoadedName as usize
 }
 
-fn value_fits(t: &[u8], n: usize, nv: usize, names: usize, k: usize, v: usize) -> bool
-    requires { (names ≡ names_of t.now n nv) × None5 t.now n nv }
-    ensures { result ≡ value_fits t.now n nv k v }
+#[tactic(auto, using(crate::proofs::Names::literal_test, crate::proofs::Names::name_test), unfolding(crate::specs::code::Stages::value_fits))]
+fn value_fits(t: &[u8], f: &Facts, k: usize, v: usize) -> bool
+    requires { Formed t.now f.now }
+    ensures { result ≡ value_fits t.now f.now.nodes f.now.values k v }
 {
-    if k == 21 {
-        if v < names {
-            return false;
-        }
-        return v < nv;
+    if k == Kind::Literal as usize {
+        f.names <= v && v < f.values
+    } else if has_name(k) {
+        v < f.names
+    } else {
+        v == 65535
     }
-    if has_name(k) {
-        return v < names;
-    }
-    v == 65535
 }
 
-fn node_ok(t: &[u8], n: usize, nv: usize, names: usize, par: &[u16; 1024], i: usize) -> bool
-    requires { (n ≤ 1024) × (i < n) × Parents t.now n par.now × (names ≡ names_of t.now n nv) × None5 t.now n nv }
-    ensures { result ≡ good6 t.now n nv i }
+#[tactic(auto, unfolding(crate::specs::code::Stages::good6))]
+fn node_ok(t: &[u8], f: &Facts, par: &[u16; 1024], i: usize) -> bool
+    requires { Formed t.now f.now × (i < f.now.nodes) × Parents t.now f.now.nodes par.now }
+    ensures { result ≡ good6 t.now f.now.nodes f.now.values i }
 {
-    if !is_known(kind_at(t, i)) {
-        return false;
-    }
-    if end_at(t, i) < begin_at(t, i) {
-        return false;
-    }
-    if last_at(t, i) != 0 {
-        return false;
-    }
+    let k = kind_at(t, i);
     let s = size_at(t, i);
-    if s < 1 {
-        return false;
-    }
-    if limit_at(t, n, par, i) < i + s {
-        return false;
-    }
-    value_fits(t, n, nv, names, kind_at(t, i), value_at(t, i))
+    is_known(k)
+        && begin_at(t, i) <= end_at(t, i)
+        && last_at(t, i) == 0
+        && 1 <= s
+        && i + s <= limit_at(t, f.nodes, par, i)
+        && value_fits(t, f, k, value_at(t, i))
 }
 
-pub(crate) fn first6(t: &[u8], n: usize, nv: usize, names: usize, par: &[u16; 1024]) -> usize
-    requires { (n ≤ 1024) × Parents t.now n par.now × (names ≡ names_of t.now n nv) × None5 t.now n nv }
-    ensures { result ≡ lowest n (bad6 t.now n nv) }
+// 6: the first node that is wrong by itself or ends behind its parent is refused.
+pub(crate) fn check_nodes(t: &[u8], f: &Facts, par: &[u16; 1024]) -> Result<(), Refusal>
+    requires { Formed t.now f.now × Parents t.now f.now.nodes par.now }
+    ensures { Judges Node f.now.nodes (bad6 t.now f.now.nodes f.now.values) result }
 {
-    let mut i = 0;
-    while i < n {
-        if !node_ok(t, n, nv, names, par, i) {
-            return i;
+    for i in 0..f.nodes {
+        if !node_ok(t, f, par, i) {
+            return Err(Refusal::Node(i));
         }
-        i += 1;
     }
-    n
+    Ok(())
 }
 
-// 8.
-pub(crate) fn first8(t: &[u8], n: usize, par: &[u16; 1024]) -> usize
+// 8: the first node that is deeper than 48 is refused.
+pub(crate) fn check_depths(t: &[u8], n: usize, par: &[u16; 1024]) -> Result<(), Refusal>
     requires { (1 ≤ n) × (n ≤ 1024) × Parents t.now n par.now }
-    ensures { result ≡ lowest n (too_deep t.now) }
+    ensures { Judges Depth n (too_deep t.now) result }
 {
     let mut depth = [1u16; 1024];
-    let mut i = 1;
-    while i < n {
-        let p = widen(par[i]);
-        let d = widen(depth[p]) + 1;
+    for i in 1..n {
+        let d = depth[usize::from(par[i])] + 1;
         if 48 < d {
-            return i;
+            return Err(Refusal::Depth(i));
         }
-        depth[i] = narrow(d);
-        i += 1;
+        depth[i] = d;
     }
-    n
+    Ok(())
 }

@@ -1,11 +1,17 @@
 // The table of values and the globals: refusals 5 and 9.
 ghost use Rattle.std.specs.Prelude.{◌≡◌, ◌+◌, ◌*◌, ◌<◌, ◌≤◌};
-ghost use Rattle.tree.specs.Search.{lowest};
 ghost use Rattle.tree.specs.Values.{offset};
-ghost use Rattle.tree.specs.code.Stages.{bad5, bad9, names_of, None5};
+ghost use Rattle.tree.specs.Table.{listed};
+ghost use Rattle.tree.specs.declared.Refusal.TheVariants.{Value, Global};
+ghost use Rattle.tree.specs.code.Stages.{bad5, bad9, names_of, Formed, Judges};
 ghost use Rattle.tree.specs.code.Offsets.{formed_at, bytes_less, ordered_at, integer_ok, float_ok};
 
 use crate::bytes::{byte_at, u16_at, u64_at};
+use crate::kinds::ValueKind;
+use crate::{Facts, Refusal};
+
+// The bits of an infinity: no float but the NaNs is above it, by its bits.
+const INFINITY: usize = 0x7ff0_0000_0000_0000;
 
 // 5: form and order.
 fn integer_ok(t: &[u8], o: usize) -> bool
@@ -13,96 +19,64 @@ fn integer_ok(t: &[u8], o: usize) -> bool
     ensures { result ≡ integer_ok t.now o }
 {
     let len = u16_at(t, o + 1);
-    if 64 < len {
-        return false;
-    }
-    if len == 0 {
-        return true;
-    }
-    if byte_at(t, o + 3) == 0 {
-        return false;
-    }
-    true
+    len <= 64 && (len == 0 || byte_at(t, o + 3) != 0)
 }
 
 fn float_ok(t: &[u8], o: usize) -> bool
     requires { o < 34000000 }
     ensures { result ≡ float_ok t.now o }
 {
-    if u16_at(t, o + 1) != 8 {
-        return false;
-    }
-    if 9218868437227405312 < u64_at(t, o + 3) {
-        return false;
-    }
-    true
+    u16_at(t, o + 1) == 8 && u64_at(t, o + 3) <= INFINITY
 }
 
+#[tactic(auto, unfolding(crate::specs::code::Offsets::formed_at))]
 fn formed_at(t: &[u8], o: usize) -> bool
     requires { o < 34000000 }
     ensures { result ≡ formed_at t.now o }
 {
     let len = u16_at(t, o + 1);
     let kind = byte_at(t, o);
-    if 255 < len {
-        return false;
+    if len > 255 {
+        false
+    } else if kind == ValueKind::Name as usize {
+        1 <= len
+    } else if kind == ValueKind::Integer as usize {
+        integer_ok(t, o)
+    } else if kind == ValueKind::Float as usize {
+        float_ok(t, o)
+    } else {
+        kind <= ValueKind::Bytes as usize
     }
-    if kind == 0 {
-        if len < 1 {
-            return false;
-        }
-        return true;
-    }
-    if kind <= 2 {
-        return true;
-    }
-    if kind == 3 {
-        return integer_ok(t, o);
-    }
-    if kind == 4 {
-        return float_ok(t, o);
-    }
-    false
 }
 
 fn bytes_less(t: &[u8], k: usize, a: usize, b: usize) -> bool
     requires { (k < 65536) × (a < 34000009) × (b < 34000009) }
     ensures { result ≡ bytes_less k t.now a b }
 {
-    let mut i = 0;
-    while i < k {
+    for i in 0..k {
         let x = byte_at(t, a + i);
         let y = byte_at(t, b + i);
-        if x < y {
-            return true;
+        if x != y {
+            return x < y;
         }
-        if y < x {
-            return false;
-        }
-        i += 1;
     }
     false
 }
 
+#[tactic(auto, unfolding(crate::specs::code::Offsets::ordered_at))]
 fn in_order(t: &[u8], a: usize, b: usize) -> bool
     requires { (a < 34000000) × (b < 34000000) }
     ensures { result ≡ ordered_at t.now a b }
 {
     let ka = byte_at(t, a);
     let kb = byte_at(t, b);
-    if ka < kb {
-        return true;
-    }
-    if kb < ka {
-        return false;
+    if ka != kb {
+        return ka < kb;
     }
     let la = u16_at(t, a + 1);
     let lb = u16_at(t, b + 1);
-    if la < lb {
-        return true;
-    }
-    if lb < la {
-        return false;
+    if la != lb {
+        return la < lb;
     }
     bytes_less(t, la, a + 3, b + 3)
 }
@@ -113,36 +87,27 @@ pub(crate) fn offset_of(t: &[u8], n: usize, v: usize) -> usize
     ensures { (result ≡ offset t.now n v) × (result ≤ 11 + 16 * n + 65538 * v) }
 {
     let mut at = 11 + 16 * n;
-    let mut i = 0;
-    while i < v {
-        at = at + 3 + u16_at(t, at + 1);
-        i += 1;
+    for i in 0..v {
+        at += 3 + u16_at(t, at + 1);
     }
     at
 }
 
-// The first value whose form or order is wrong; nv where none is.
-pub(crate) fn first5(t: &[u8], n: usize, nv: usize) -> usize
+// The first value whose form or order is wrong is refused.
+pub(crate) fn check_values(t: &[u8], n: usize, nv: usize) -> Result<(), Refusal>
     requires { (n ≤ 1024) × (nv ≤ 512) }
-    ensures { result ≡ lowest nv (bad5 t.now n) }
+    ensures { Judges Value nv (bad5 t.now n) result }
 {
     let mut before = 0;
     let mut at = 11 + 16 * n;
-    let mut i = 0;
-    while i < nv {
-        if !formed_at(t, at) {
-            return i;
-        }
-        if 0 < i {
-            if !in_order(t, before, at) {
-                return i;
-            }
+    for i in 0..nv {
+        if !formed_at(t, at) || 0 < i && !in_order(t, before, at) {
+            return Err(Refusal::Value(i));
         }
         before = at;
-        at = at + 3 + u16_at(t, at + 1);
-        i += 1;
+        at += 3 + u16_at(t, at + 1);
     }
-    nv
+    Ok(())
 }
 
 // How many names the values begin with.
@@ -151,36 +116,27 @@ pub(crate) fn count_names(t: &[u8], n: usize, nv: usize) -> usize
     ensures { result ≡ names_of t.now n nv }
 {
     let mut at = 11 + 16 * n;
-    let mut i = 0;
-    while i < nv {
-        if byte_at(t, at) != 0 {
+    for i in 0..nv {
+        if byte_at(t, at) != ValueKind::Name as usize {
             return i;
         }
-        at = at + 3 + u16_at(t, at + 1);
-        i += 1;
+        at += 3 + u16_at(t, at + 1);
     }
     nv
 }
 
-// 9: the first global that is no name or not above the one before it.
-pub(crate) fn first9(t: &[u8], n: usize, nv: usize, at: usize, names: usize, g: usize) -> usize
-    requires { (g ≤ 512) × (at < 34000000) × (at ≡ offset t.now n nv) × (names ≡ names_of t.now n nv) × None5 t.now n nv }
-    ensures { result ≡ lowest g (bad9 t.now n nv) }
+// 9: the first global that is no name or not above the one before it is refused.
+pub(crate) fn check_globals(t: &[u8], f: &Facts, count: usize) -> Result<(), Refusal>
+    requires { Formed t.now f.now × (count ≤ 512) }
+    ensures { Judges Global count (bad9 t.now f.now.nodes f.now.values) result }
 {
     let mut before = 0;
-    let mut i = 0;
-    while i < g {
-        let x = u16_at(t, at + 2 * i);
-        if names <= x {
-            return i;
-        }
-        if 0 < i {
-            if x <= before {
-                return i;
-            }
+    for i in 0..count {
+        let x = u16_at(t, f.rest + 2 * i);
+        if f.names <= x || 0 < i && x <= before {
+            return Err(Refusal::Global(i));
         }
         before = x;
-        i += 1;
     }
-    g
+    Ok(())
 }

@@ -1,12 +1,8 @@
-use Prim.Native.Nat.{◌-◌, ◌*◌, ◌≤◌}
-use mathlib.Core.Path.{◌≡◌}
-use lib.ListN.{length, drop}
+use Prim.Native.Nat.{◌*◌}
+use lib.ListN.{drop}
 use Rattle.json_text.specs.Escape.{escape}
-use Rattle.page.proofs.Going.{Going}
+use Rattle.page.proofs.Going.{Adding}
 use Rattle.json_text.proofs.escaped.Given as goal
 
 abbrev pub invariant-loop-i : goal.invariant-loop-i
-invariant-loop-i l = (l.i ≤ length l.s) × (length l.out ≡ length l.initial.out) × Going l.initial.out l.n l.out l.at (6 * l.i) (escape l.left (drop l.i l.s)) (escape 0 l.s)
-
-abbrev pub decreases-loop-i : goal.decreases-loop-i
-decreases-loop-i l = length l.s - l.i
+invariant-loop-i l = Adding l.initial.w l.w (6 * l.i) (escape l.left (drop l.i l.s)) (escape 0 l.s)

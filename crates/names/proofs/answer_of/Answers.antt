@@ -1,3 +1,4 @@
+use mathlib.Core.Path.{sym, ◌∙◌}
 use Rattle.names.proofs.Telling.{short_of, listed_of}
 use Rattle.names.proofs.answer_of.Goals as goal
 
@@ -7,4 +8,5 @@ returns-then-out-n c =
 
 pub returns : goal.returns
 returns c =
-    listed_of _ _ c.args.n c.requires c.args.out.now _ _ _ c.started.result c.records.result c.if-out-n.false c.started.ensures.0 c.started.ensures.1 c.records.ensures c.listed.ensures.0 c.listed.ensures.1
+    let e = c.out-1.given.1.1 (sym (c.records.ensures.same_room ∙ c.new-sheet.ensures.1)) in
+    rw e (listed_of _ _ c.args.n c.requires c.args.out.now _ c.listed.result c.new-sheet.result c.records.new.sheet c.if-out-n.false c.new-sheet.ensures.0 c.records.ensures c.listed.ensures.0 c.listed.ensures.1)

@@ -1,18 +1,16 @@
-use Rattle.sarif_log.proofs.Plainly.{not_warned, warned}
-use Rattle.rules.specs.Codes.{disabled}
-use Rattle.sarif_log.specs.Log.{level}
-use Rattle.page.proofs.Pages.{retold}
-use mathlib.Core.List.{◌++◌}
-use mathlib.Core.Path.{sym, ◌∙◌}
 use native.Mathlib.Omega.{arith}
+use mathlib.Core.Path.{sym}
+use mathlib.Core.List.{◌++◌}
+use Rattle.rules.specs.Codes.{disabled}
+use Rattle.page.proofs.Pages.{added_retold}
+use Rattle.sarif_log.specs.Log.{level}
+use Rattle.sarif_log.proofs.Plainly.{not_warned, warned}
 use Rattle.sarif_log.proofs.level.Goals as goal
 
 pub returns-in-Disabled : goal.returns-in-Disabled
 returns-in-Disabled c =
-    let code = c.args.code in
-    retold 7 (λ rest. level code ++ rest) c.raw.ensures (omega arith) (λ rest. rw (not_warned (disabled code) (sym c.severity-s.ensures ∙ c.in-Disabled.is)))
+    added_retold 7 (λ rest. level c.args.code ++ rest) c.raw.ensures (omega arith) (λ rest. rw (not_warned (disabled c.args.code) (sym c.in-Disabled.ensures)))
 
 pub returns-in-Warning : goal.returns-in-Warning
 returns-in-Warning c =
-    let code = c.args.code in
-    retold 7 (λ rest. level code ++ rest) c.raw-in-Warning.ensures (omega arith) (λ rest. rw (warned (disabled code) (sym c.severity-s.ensures ∙ c.in-Warning.is)))
+    added_retold 7 (λ rest. level c.args.code ++ rest) c.raw-in-Warning.ensures (omega arith) (λ rest. rw (warned (disabled c.args.code) (sym c.in-Warning.ensures)))

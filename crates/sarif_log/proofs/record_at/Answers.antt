@@ -1,8 +1,8 @@
-use Rattle.sarif_log.proofs.Turns.{words_at}
 use Prim.Native.Nat.{◌+◌, ◌*◌}
-use mathlib.Core.Path.{◌≡◌}
 use native.Mathlib.Omega.{arith}
+use mathlib.Core.Path.{◌≡◌}
 use Rattle.rules.specs.Record.{width}
+use Rattle.sarif_log.proofs.Turns.{words_at}
 use Rattle.sarif_log.proofs.record_at.Goals as goal
 
 pub returns : goal.returns

@@ -15,9 +15,9 @@ returns-then-spared c =
 pub warn-requires : goal.warn-requires
 warn-requires c = (omega arith, rw c.code_of.ensures (code_small c.kind_at.result), omega arith)
 
-pub returns : goal.returns
+pub returns-else-spared : goal.returns-else-spared
 unfolding warn_lines
-returns c =
+returns-else-spared c =
     let e = idle_so c.args.t.now c.args.w.now c.args.n c.args.i c.args.spared c.if-spared.false in
     let q = c.code_of.ensures ∙ ap (λ (k : ℕ). unused (sort_of k)) c.kind_at.ensures.0 in
     (c.warn.ensures.0 ∙ ap (λ (l : Lines). l.count) e, rw (← q) c.warn.ensures.1 ∙ ap (λ (l : Lines). l.words) e, c.warn.ensures.2)

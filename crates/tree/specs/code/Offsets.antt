@@ -1,9 +1,13 @@
 -- What private functions promise, by offsets and in 64 bits; proofs/Link ties it to the definitions of Values. Assumes nothing.
-use Rattle.std.specs.Prelude.{ℕ, zero, suc, ◌+◌, ◌*◌, List, Bool, true, false, ◌&&◌, ◌||◌, not, get_or, leb, ltb, eqb}
+use Rattle.std.specs.Prelude.{ℕ, zero, suc, ◌+◌, ◌*◌, ◌≡◌, ◌≤◌, ◌⊎◌, List, length, Bool, true, false, ◌&&◌, ◌||◌, not, get_or, leb, ltb, eqb}
 use Rattle.tree.specs.Bytes.{u16_at, u32_at, pick}
 
 unfoldable pub u64_at : List ℕ → ℕ → ℕ
 u64_at s at = u32_at s at + 4294967296 * u32_at s (at + 4)
+
+-- o stands for place p of the bytes t: it is p, or both are past the end
+abbrev pub Place : List ℕ → ℕ → ℕ → Type 0
+Place t p o = (o ≡ p) ⊎ ((length t ≤ p) × (length t ≤ o))
 
 -- of a value that starts at o: its kind, and its length as written
 abbrev pub kind_of : List ℕ → ℕ → ℕ

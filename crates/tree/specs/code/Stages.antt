@@ -1,6 +1,6 @@
 -- The judgement as the code goes: number by number, each value read where it stands. proofs/Staged shows that `judged` says
 -- the same. Assumes nothing.
-use Rattle.std.specs.Prelude.{Ok, Err}
+use Rattle.std.specs.Prelude.{Ok, Err, Result, MatchResult}
 use Rattle.std.specs.Prelude.{ℕ, ◌+◌, ◌*◌, ◌-◌, ◌≤◌, ◌<◌, ◌≡◌, List, Bool, ◌&&◌, ◌||◌, not, length, get_or, leb, ltb, eqb}
 use Rattle.tree.specs.Bytes.{version_of, u16_at, kind_at, size_at, begin_at, end_at, value_at, last_at, pick}
 use Rattle.tree.specs.Search.{lowest}
@@ -10,6 +10,7 @@ use Rattle.tree.specs.Nodes.{parent_of, limit_of, known, holds_name, too_deep}
 use Rattle.tree.specs.Judge.{refuse_at, marked, versioned, limits}
 use Rattle.tree.specs.code.Kids.{bad7}
 use Rattle.tree.specs.declared.Facts.{Facts}
+use Rattle.tree.specs.declared.Refusal.{Refusal}
 use Rattle.tree.specs.declared.Refusal.TheVariants.{Mark, Version, Counts, Sections, Value as ValueAt, Node, Children, Depth, Global}
 use Rattle.tree.specs.Judge.{Judged}
 
@@ -73,6 +74,25 @@ None5 t n nv = nv ≤ lowest nv (bad5 t n)
 
 abbrev pub None6 : List ℕ → ℕ → ℕ → Type 0
 None6 t n nv = n ≤ lowest n (bad6 t n nv)
+
+-- the refusal of the lowest of n places that is wrong
+pub record Lowest (why : ℕ → Refusal) (n : ℕ) (wrong : ℕ → Bool) (e : Refusal) : Type 0 where
+  pub below : lowest n wrong < n
+  pub is : e ≡ why (lowest n wrong)
+
+-- what a check of n places answers
+abbrev pub Judges : (ℕ → Refusal) → ℕ → (ℕ → Bool) → Result Unit Refusal → Type 0
+Judges why n wrong r = MatchResult r (λ u. n ≤ lowest n wrong) (λ e. Lowest why n wrong e)
+
+-- what is known of a file once its values are in form
+pub record Formed (t : List ℕ) (f : Facts) : Type 0 where
+  pub some_nodes : 1 ≤ f.nodes
+  pub few_nodes : f.nodes ≤ 1024
+  pub few_values : f.values ≤ 512
+  pub names : f.names ≡ names_of t f.nodes f.values
+  pub rest : f.rest ≡ offset t f.nodes f.values
+  pub early : f.rest < 34000000
+  pub none5 : None5 t f.nodes f.values
 
 unfoldable pub facts_at : List ℕ → ℕ → ℕ → ℕ → Facts
 facts_at t n nv g =

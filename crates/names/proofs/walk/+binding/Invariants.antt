@@ -5,14 +5,14 @@ use lib.ListN.{length}
 use Rattle.tree.specs.Bytes.{pick, size_at}
 use Rattle.tree.specs.code.Part.{Part}
 use Rattle.scope.specs.State.{Fits}
-use Rattle.names.specs.Walk.{Goes, names_in, node_bind, node_use}
+use Rattle.names.specs.Walk.{Goes, number, used_by, names_in, node_bind, node_use}
 use Rattle.scope.specs.declared.Scope.{Scope}
 use Rattle.names.proofs.walk.+binding.Given as goal
 
 abbrev pub invariant-bind-loop-i : goal.invariant-bind-loop-i
 invariant-bind-loop-i l =
     (l.c < l.i) × (l.e ≡ l.c + size_at l.t l.c) × Part l.t l.i l.e × Fits l.w l.z × (length l.w ≡ length l.initial.w)
-    × ((d : ℕ) (v : List ℕ) (y : Scope) → Goes l.t d (names_in l.uses l.t l.r l.i l.e) l.w l.z v y → Goes l.t d (pick l.uses (node_use l.t l.r l.c) (node_bind l.t l.r l.c)) l.initial.w l.initial.z v y)
+    × ((d : ℕ) (v : List ℕ) (y : Scope) → Goes l.t d (names_in (used_by l.binding) l.t (number l.role) l.i l.e) l.w l.z v y → Goes l.t d (pick (used_by l.binding) (node_use l.t (number l.role) l.c) (node_bind l.t (number l.role) l.c)) l.initial.w l.initial.z v y)
 
 abbrev pub decreases-bind-loop-i : goal.decreases-bind-loop-i
 decreases-bind-loop-i l = l.e - l.i

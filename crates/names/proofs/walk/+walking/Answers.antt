@@ -5,9 +5,11 @@ use Rattle.names.proofs.Going.{then, goes_fits, goes_as, enter_fits, scopes_to, 
 use Rattle.names.proofs.Rows.{node_zero, below_ends, below_node, regroup, clause_none, clause_there, kid_as, kids_as, down_as, fail_as, cond_true, cond_false, clauses_on, clauses_last, below_rest, node_more, loop_once, loop_twice, return_node, pick_true, pick_false, visit_on, visit_last}
 use Rattle.tree.specs.Bytes.{size_at}
 use mathlib.Core.Path.{sym, ◌∙◌, refl}
-use Rattle.names.proofs.Parts.{node_statements, node_load, nine_on, eleven_off, node_few, bound_there, bound_none, clause_after, node_if, node_if_else, ten_left, node_def, node_expression, node_identifier, node_list, node_dict, node_other, node_assign, node_lambda, node_in_part, node_for, node_modify, over_there, over_none, node_break, node_continue, node_statement}
+use mathlib.Core.Logic.{inl, inr}
+use Rattle.names.proofs.Parts.{node_statements, node_load, nine_on, eleven_off, node_few, bound_there, bound_none, first_below, node_if, node_if_else, ten_left, node_def, node_expression, node_identifier, node_list, node_dict, node_other, node_assign, node_lambda, node_in_part, node_for, node_modify, over_there, over_none, node_break, node_continue, node_statement}
 use Rattle.names.proofs.Held.{methods}
-use Rattle.rules.specs.Order.{fails}
+use Rattle.tree.specs.Forest.{node_head}
+use Rattle.rules.specs.Order.{breaks, broken_by, fails}
 use Rattle.scope.specs.declared.Abort.TheVariants.{Function, Loop}
 use Rattle.tree.proofs.Laws.{rest, sized, ended}
 use Rattle.names.proofs.walk.+walking.Goals as goal
@@ -24,34 +26,34 @@ assign-returns t c = then c.down-a.ensures (c.bind-a.ensures c.args.d)
 pub block-down-requires : goal.block-down-requires
 block-down-requires t c = (omega (arith, c.decreases), (c.requires.4, c.requires.5))
 
-pub block-returns-then-k-eq8 : goal.block-returns-then-k-eq8
-block-returns-then-k-eq8 t c = goes_as (node_statements _ _ _ (sym c.requires.0 ∙ c.if-k-eq8.true)) c.down.ensures
+pub block-returns-then-k : goal.block-returns-then-k
+block-returns-then-k t c = goes_as (node_statements _ _ _ (sym c.requires.0 ∙ c.if-k.true)) c.down.ensures
 
 pub block-def-requires : goal.block-def-requires
-block-def-requires t c = (omega (arith, c.decreases), ((sym c.requires.0 ∙ c.if-k-eq12.true), c.requires.4, c.requires.5))
+block-def-requires t c = (omega (arith, c.decreases), ((sym c.requires.0 ∙ c.if-k-2.true), c.requires.4, c.requires.5))
 
-pub block-returns-then-k-eq12 : goal.block-returns-then-k-eq12
-block-returns-then-k-eq12 t c = c.def.ensures
+pub block-returns-then-k-2 : goal.block-returns-then-k-2
+block-returns-then-k-2 t c = c.def.ensures
 
 pub block-bind-requires : goal.block-bind-requires
 block-bind-requires t c = (node_zero c.requires.4, c.requires.5)
 
-pub block-returns-then-k-eq13 : goal.block-returns-then-k-eq13
-block-returns-then-k-eq13 t c = goes_as (node_load _ _ _ (sym c.requires.0 ∙ c.if-k-eq13.true)) (c.bind.ensures c.args.d)
+pub block-returns-then-k-3 : goal.block-returns-then-k-3
+block-returns-then-k-3 t c = goes_as (node_load _ _ _ (sym c.requires.0 ∙ c.if-k-3.true)) (c.bind.ensures c.args.d)
 
 pub block-loops-requires : goal.block-loops-requires
 block-loops-requires t c =
-    (omega (arith, c.decreases), ((sym c.requires.0 ∙ c.if-k-eq11.true), c.requires.3, c.requires.4, c.requires.5))
+    (omega (arith, c.decreases), ((sym c.requires.0 ∙ c.if-k-4.true), c.requires.3, c.requires.4, c.requires.5))
 
-pub block-returns-then-k-eq11 : goal.block-returns-then-k-eq11
-block-returns-then-k-eq11 t c = c.loops.ensures
+pub block-returns-then-k-4 : goal.block-returns-then-k-4
+block-returns-then-k-4 t c = c.loops.ensures
 
 pub block-cond-requires : goal.block-cond-requires
 block-cond-requires t c =
-    (omega (arith, c.decreases), (c.requires.0, nine_on c.requires.1 c.if-k-eq8.false, eleven_off c.requires.2 c.if-k-eq12.false c.if-k-eq13.false c.if-k-eq11.false, c.requires.4, c.requires.5))
+    (omega (arith, c.decreases), (c.requires.0, nine_on c.requires.1 c.if-k.false, eleven_off c.requires.2 c.if-k-2.false c.if-k-3.false c.if-k-4.false, c.requires.4, c.requires.5))
 
-pub block-returns : goal.block-returns
-block-returns t c = c.cond.ensures
+pub block-returns-else-k-4 : goal.block-returns-else-k-4
+block-returns-else-k-4 t c = c.cond.ensures
 
 pub body-bind-a-requires : goal.body-bind-a-requires
 body-bind-a-requires t c = (node_zero c.requires.0, enter_fits c.enter.ensures c.requires.1)
@@ -67,24 +69,14 @@ pub body-returns : goal.body-returns
 body-returns t c =
     scopes_to (methods _) c.requires.1 c.enter.ensures (then (c.bind-a.ensures c.args.d) c.down-b.ensures) c.leave.ensures.0 c.leave.ensures.1
 
-pub bound-overflow_add-e : goal.bound-overflow_add-e
-bound-overflow_add-e t c = omega (arith, c.size_at.ensures.0, node_few c.requires.1, c.requires.1.part.few)
-
 pub bound-assign-a-requires : goal.bound-assign-a-requires
-bound-assign-a-requires t c =
-    let h : c.args.x < c.args.c + size_at c.args.t.now c.args.c = rw c.size_at.ensures.0 at c.if-x-e.true in let k = (clause_after c.args.t.now c.args.f c.requires.1 c.requires.0) in let b = below_ends c.requires.1 k h in (omega (arith, c.decreases), (below_node c.requires.1 k h, c.requires.2))
+bound-assign-a-requires t c = let b = first_below c.requires.1 (sym c.in-Some.is ∙ c.requires.0) in let e = below_ends c.requires.1 b.0 b.1 in (omega (arith, c.decreases, e, b.0), (below_node c.requires.1 b.0 b.1, c.requires.2))
 
 pub bound-later-requires : goal.bound-later-requires
-bound-later-requires t c =
-    let h : c.args.x < c.args.c + size_at c.args.t.now c.args.c = rw c.size_at.ensures.0 at c.if-x-e.true in let k = (clause_after c.args.t.now c.args.f c.requires.1 c.requires.0) in let b = below_ends c.requires.1 k h in (omega (arith, c.decreases), (k, h, c.requires.1, (goes_fits c.assign-a.ensures)))
-
-pub bound-returns-then-x-e : goal.bound-returns-then-x-e
-bound-returns-then-x-e t c =
-    let h : c.args.x < c.args.c + size_at c.args.t.now c.args.c = rw c.size_at.ensures.0 at c.if-x-e.true in let k = (clause_after c.args.t.now c.args.f c.requires.1 c.requires.0) in let b = below_ends c.requires.1 k h in goes_as (bound_there _ _ c.requires.1 c.requires.0 h) (regroup (then c.assign-a.ensures c.later.ensures))
+bound-later-requires t c = let b = first_below c.requires.1 (sym c.in-Some.is ∙ c.requires.0) in (omega (arith, c.decreases), (b.0, b.1, c.requires.1, goes_fits c.assign-a.ensures))
 
 pub bound-returns : goal.bound-returns
-bound-returns t c =
-    let h : c.args.c + size_at c.args.t.now c.args.c ≤ c.args.x = rw c.size_at.ensures.0 at c.if-x-e.false in goes_as (bound_none _ _ c.requires.1 c.requires.0 h) (skips c.requires.2)
+bound-returns t c = goes_as (bound_there _ _ c.requires.1 (sym c.in-Some.is ∙ c.requires.0)) (regroup (then c.assign-a.ensures c.later.ensures))
 
 pub branch-down-a-requires : goal.branch-down-a-requires
 branch-down-a-requires t c = (omega (arith, c.decreases), (c.requires.0, c.requires.1))
@@ -99,9 +91,9 @@ branch-join-requires t c = (goes_fits c.down-b.ensures).settings
 pub branch-returns : goal.branch-returns
 branch-returns t c = sides_to (methods _) c.requires.1 c.down-a.ensures c.back.ensures c.down-b.ensures c.join.ensures
 
-pub clause-returns-then-role_at-ne0 : goal.clause-returns-then-role_at-ne0
-clause-returns-then-role_at-ne0 t c =
-    goes_as (clause_none _ _ _ (λ z. c.if-role_at-ne0.true (c.role_at.ensures.0 ∙ z))) (skips c.requires.1)
+pub clause-returns-then-role_at : goal.clause-returns-then-role_at
+clause-returns-then-role_at t c =
+    goes_as (clause_none _ _ _ (λ z. c.if-role_at.true (c.role_at.ensures.0 ∙ z))) (skips c.requires.1)
 
 pub clause-down-a-requires : goal.clause-down-a-requires
 clause-down-a-requires t c = (omega (arith, c.decreases), (c.requires.0, c.requires.1))
@@ -111,7 +103,7 @@ clause-assign-requires t c = (omega (arith, c.decreases), (c.requires.0, (goes_f
 
 pub clause-returns : goal.clause-returns
 clause-returns t c =
-    goes_as (clause_there _ _ _ (sym c.role_at.ensures.0 ∙ c.if-role_at-ne0.false)) (then c.down-a.ensures c.assign.ensures)
+    goes_as (clause_there _ _ _ (sym c.role_at.ensures.0 ∙ c.if-role_at.false)) (then c.down-a.ensures c.assign.ensures)
 
 pub comp-overflow_add-e : goal.comp-overflow_add-e
 comp-overflow_add-e t c = omega (arith, c.size_at.ensures.0, node_few c.requires.0, c.requires.0.part.few)
@@ -121,11 +113,11 @@ comp-overflow_add-c t c = omega (arith, node_few c.requires.0)
 
 pub comp-over-a-requires : goal.comp-over-a-requires
 comp-over-a-requires t c =
-    (omega (arith, c.decreases), ((kid_as _ _ _ c.size_at.ensures.0 0 c.child_of-x.ensures), c.requires.0, c.requires.1))
+    (omega (arith, c.decreases), ((kid_as _ _ _ c.size_at.ensures.0 c.child_of-first.ensures), c.requires.0, c.requires.1))
 
 pub comp-rest-b-requires : goal.comp-rest-b-requires
 comp-rest-b-requires t c =
-    (omega (arith, c.decreases), ((kid_as _ _ _ c.size_at.ensures.0 0 c.child_of-x.ensures), c.requires.0, enter_fits c.enter.ensures (goes_fits c.over-a.ensures)))
+    (omega (arith, c.decreases), ((kid_as _ _ _ c.size_at.ensures.0 c.child_of-first.ensures), c.requires.0, enter_fits c.enter.ensures (goes_fits c.over-a.ensures)))
 
 pub comp-leave-b-requires : goal.comp-leave-b-requires
 comp-leave-b-requires t c =
@@ -141,15 +133,15 @@ cond-down-a-requires t c = (omega (arith, c.decreases), (c.requires.3, c.require
 pub cond-side-requires : goal.cond-side-requires
 cond-side-requires t c = (omega (arith, c.decreases), (c.requires.3, (goes_fits c.down-a.ensures)))
 
-pub cond-returns-then-k-eq9 : goal.cond-returns-then-k-eq9
-cond-returns-then-k-eq9 t c = goes_as (node_if _ _ _ (sym c.requires.0 ∙ c.if-k-eq9.true)) (then c.down-a.ensures c.side.ensures)
+pub cond-returns-then-k : goal.cond-returns-then-k
+cond-returns-then-k t c = goes_as (node_if _ _ _ (sym c.requires.0 ∙ c.if-k.true)) (then c.down-a.ensures c.side.ensures)
 
 pub cond-branch-t-requires : goal.cond-branch-t-requires
 cond-branch-t-requires t c = (omega (arith, c.decreases), (c.requires.3, (goes_fits c.down-a.ensures)))
 
-pub cond-returns : goal.cond-returns
-cond-returns t c =
-    goes_as (node_if_else _ _ _ (sym c.requires.0 ∙ ten_left c.requires.1 c.requires.2 c.if-k-eq9.false)) (then c.down-a.ensures c.branch-t.ensures)
+pub cond-returns-else-k : goal.cond-returns-else-k
+cond-returns-else-k t c =
+    goes_as (node_if_else _ _ _ (sym c.requires.0 ∙ ten_left c.requires.1 c.requires.2 c.if-k.false)) (then c.down-a.ensures c.branch-t.ensures)
 
 pub def-down-a-requires : goal.def-down-a-requires
 def-down-a-requires t c = (omega (arith, c.decreases), (c.requires.1, c.requires.2))
@@ -193,41 +185,32 @@ pub eval-returns-then-is_fail : goal.eval-returns-then-is_fail
 eval-returns-then-is_fail t c =
     goes_as (node_expression _ _ _ c.requires.0) (then c.down-a.ensures (cond_true _ (sym (fail_as _ _ _ c.size_at.ensures.0 _ c.requires.1 c.is_fail.ensures) ∙ c.if-is_fail.true) _ _ (stop_to fails Function refl c.stop.ensures (goes_fits c.down-a.ensures))))
 
-pub eval-returns : goal.eval-returns
-eval-returns t c =
+pub eval-returns-else-is_fail : goal.eval-returns-else-is_fail
+eval-returns-else-is_fail t c =
     goes_as (node_expression _ _ _ c.requires.0) (then c.down-a.ensures (cond_false _ (sym (fail_as _ _ _ c.size_at.ensures.0 _ c.requires.1 c.is_fail.ensures) ∙ c.if-is_fail.false) _ _ (skips (goes_fits c.down-a.ensures))))
 
 pub expr-used-requires : goal.expr-used-requires
 expr-used-requires t c = (c.requires.3, omega (arith, node_few c.requires.2))
 
-pub expr-returns-then-k-eq20 : goal.expr-returns-then-k-eq20
-expr-returns-then-k-eq20 t c =
-    goes_as (node_identifier _ _ _ (sym c.requires.0 ∙ c.if-k-eq20.true)) (goes_to c.used.ensures.1 c.used.ensures.0 ((methods _).used _ _ _ _ c.requires.3 (node_few c.requires.2)))
+pub expr-returns-then-k : goal.expr-returns-then-k
+expr-returns-then-k t c =
+    goes_as (node_identifier _ _ _ (sym c.requires.0 ∙ c.if-k.true)) (goes_to c.used.ensures.1 c.used.ensures.0 ((methods _).used _ _ _ _ c.requires.3 (node_few c.requires.2)))
 
 pub expr-lambda-requires : goal.expr-lambda-requires
-expr-lambda-requires t c = (omega (arith, c.decreases), ((sym c.requires.0 ∙ c.if-k-eq24.true), c.requires.2, c.requires.3))
+expr-lambda-requires t c = (omega (arith, c.decreases), ((sym c.requires.0 ∙ c.if-k-2.true), c.requires.2, c.requires.3))
 
-pub expr-returns-then-k-eq24 : goal.expr-returns-then-k-eq24
-expr-returns-then-k-eq24 t c = c.lambda.ensures
+pub expr-returns-then-k-2 : goal.expr-returns-then-k-2
+expr-returns-then-k-2 t c = c.lambda.ensures
 
 pub expr-comp-requires : goal.expr-comp-requires
 expr-comp-requires t c = (omega (arith, c.decreases), (c.requires.2, c.requires.3))
 
-pub expr-returns-then-k-eq25 : goal.expr-returns-then-k-eq25
-expr-returns-then-k-eq25 t c = goes_as (node_list _ _ _ (sym c.requires.0 ∙ c.if-k-eq25.true)) c.comp.ensures
-
-pub expr-comp-requires-then-k-eq26 : goal.expr-comp-requires-then-k-eq26
-expr-comp-requires-then-k-eq26 t c = (omega (arith, c.decreases), (c.requires.2, c.requires.3))
-
-pub expr-returns-then-k-eq26 : goal.expr-returns-then-k-eq26
-expr-returns-then-k-eq26 t c = goes_as (node_dict _ _ _ (sym c.requires.0 ∙ c.if-k-eq26.true)) c.comp-then-k-eq26.ensures
-
 pub expr-down-requires : goal.expr-down-requires
 expr-down-requires t c = (omega (arith, c.decreases), (c.requires.2, c.requires.3))
 
-pub expr-returns : goal.expr-returns
-expr-returns t c =
-    goes_as (node_other _ _ _ c.args.k (sym c.requires.0) c.requires.1 c.if-k-eq20.false c.if-k-eq24.false c.if-k-eq25.false c.if-k-eq26.false) c.down.ensures
+pub expr-returns-else-k-4 : goal.expr-returns-else-k-4
+expr-returns-else-k-4 t c =
+    goes_as (node_other _ _ _ c.args.k (sym c.requires.0) c.requires.1 c.if-k.false c.if-k-2.false c.if-k-4.false.0 c.if-k-4.false.1) c.down.ensures
 
 pub gets-down-a-requires : goal.gets-down-a-requires
 gets-down-a-requires t c = (omega (arith, c.decreases), (c.requires.1, c.requires.2))
@@ -324,38 +307,19 @@ modify-returns t c =
     goes_as (node_modify _ _ _ c.requires.0) (then c.down-a.ensures (then c.down-b.ensures (then (c.bind-x.ensures c.args.d) c.assign.ensures)))
 
 pub one-expr-requires : goal.one-expr-requires
-one-expr-requires t c = (omega (arith, c.decreases), (c.kind_at-k.ensures.0, c.if-k-ge14.true, c.requires.0, c.requires.2))
-
-pub one-returns-then-k-ge14 : goal.one-returns-then-k-ge14
-one-returns-then-k-ge14 t c = c.expr.ensures
+one-expr-requires t c = (omega (arith, c.decreases), (c.kind_at-k.ensures.0, omega (arith, c.if-k-2.false), c.requires.0, c.requires.2))
 
 pub one-block-requires : goal.one-block-requires
-one-block-requires t c =
-    (omega (arith, c.decreases), (c.kind_at-k.ensures.0, c.if-k-ge8.true, c.if-k-ge14.false, c.requires.1, c.requires.0, c.requires.2))
-
-pub one-returns-then-k-ge8 : goal.one-returns-then-k-ge8
-one-returns-then-k-ge8 t c = c.block.ensures
+one-block-requires t c = (omega (arith, c.decreases), (c.kind_at-k.ensures.0, c.if-k.false, omega (arith, c.if-k-2.true), c.requires.1, c.requires.0, c.requires.2))
 
 pub one-stmt-requires : goal.one-stmt-requires
-one-stmt-requires t c = (omega (arith, c.decreases), (c.kind_at-k.ensures.0, c.if-k-ge8.false, c.requires.0, c.requires.2))
-
-pub one-returns : goal.one-returns
-one-returns t c = c.stmt.ensures
-
-pub over-overflow_add-e : goal.over-overflow_add-e
-over-overflow_add-e t c = omega (arith, c.size_at.ensures.0, node_few c.requires.1, c.requires.1.part.few)
+one-stmt-requires t c = (omega (arith, c.decreases), (c.kind_at-k.ensures.0, c.if-k.true, c.requires.0, c.requires.2))
 
 pub over-down-requires : goal.over-down-requires
-over-down-requires t c =
-    let h : c.args.x < c.args.c + size_at c.args.t.now c.args.c = rw c.size_at.ensures.0 at c.if-x-e.true in let k = (clause_after c.args.t.now c.args.f c.requires.1 c.requires.0) in let b = below_ends c.requires.1 k h in (omega (arith, c.decreases), (below_node c.requires.1 k h, c.requires.2))
-
-pub over-returns-then-x-e : goal.over-returns-then-x-e
-over-returns-then-x-e t c =
-    let h : c.args.x < c.args.c + size_at c.args.t.now c.args.c = rw c.size_at.ensures.0 at c.if-x-e.true in let k = (clause_after c.args.t.now c.args.f c.requires.1 c.requires.0) in let b = below_ends c.requires.1 k h in goes_as (over_there _ _ c.requires.1 c.requires.0 h) c.down.ensures
+over-down-requires t c = let b = first_below c.requires.1 (sym c.in-Some.is ∙ c.requires.0) in let e = below_ends c.requires.1 b.0 b.1 in (omega (arith, c.decreases, e, b.0), (below_node c.requires.1 b.0 b.1, c.requires.2))
 
 pub over-returns : goal.over-returns
-over-returns t c =
-    let h : c.args.c + size_at c.args.t.now c.args.c ≤ c.args.x = rw c.size_at.ensures.0 at c.if-x-e.false in goes_as (over_none _ _ c.requires.1 c.requires.0 h) (skips c.requires.2)
+over-returns t c = goes_as (over_there _ _ c.requires.1 (sym c.in-Some.is ∙ c.requires.0)) c.down.ensures
 
 pub rest-bound-a-requires : goal.rest-bound-a-requires
 rest-bound-a-requires t c = (omega (arith, c.decreases), (c.requires.0, c.requires.1, c.requires.2))
@@ -389,50 +353,42 @@ side-returns t c =
 pub step-one-requires : goal.step-one-requires
 step-one-requires t c = (omega (arith, c.decreases), (c.requires.0, c.requires.1, c.requires.2))
 
-pub step-returns-then-wanted : goal.step-returns-then-wanted
-step-returns-then-wanted t c = pick_true _ (sym c.wanted.ensures ∙ c.if-wanted.true) _ _ c.one.ensures
+pub step-returns-then-has : goal.step-returns-then-has
+step-returns-then-has t c = pick_true _ (sym c.has.ensures ∙ c.if-has.true) _ _ c.one.ensures
 
 pub step-returns : goal.step-returns
-step-returns t c = pick_false _ (sym c.wanted.ensures ∙ c.if-wanted.false) _ _ (skips c.requires.2)
+step-returns t c = pick_false _ (sym c.has.ensures ∙ c.if-has.false) _ _ (skips c.requires.2)
 
 pub stmt-ret-requires : goal.stmt-ret-requires
-stmt-ret-requires t c = (omega (arith, c.decreases), ((sym c.requires.0 ∙ c.if-k-eq4.true), c.requires.2, c.requires.3))
+stmt-ret-requires t c = (omega (arith, c.decreases), ((sym c.requires.0 ∙ c.if-k.true), c.requires.2, c.requires.3))
 
-pub stmt-returns-then-k-eq4 : goal.stmt-returns-then-k-eq4
-stmt-returns-then-k-eq4 t c = c.ret.ensures
+pub stmt-returns-then-k : goal.stmt-returns-then-k
+stmt-returns-then-k t c = c.ret.ensures
 
 pub stmt-eval-requires : goal.stmt-eval-requires
-stmt-eval-requires t c = (omega (arith, c.decreases), ((sym c.requires.0 ∙ c.if-k-eq5.true), c.requires.2, c.requires.3))
+stmt-eval-requires t c = (omega (arith, c.decreases), ((sym c.requires.0 ∙ c.if-k-2.true), c.requires.2, c.requires.3))
 
-pub stmt-returns-then-k-eq5 : goal.stmt-returns-then-k-eq5
-stmt-returns-then-k-eq5 t c = c.eval.ensures
+pub stmt-returns-then-k-2 : goal.stmt-returns-then-k-2
+stmt-returns-then-k-2 t c = c.eval.ensures
 
 pub stmt-gets-requires : goal.stmt-gets-requires
-stmt-gets-requires t c = (omega (arith, c.decreases), ((sym c.requires.0 ∙ c.if-k-eq6.true), c.requires.2, c.requires.3))
+stmt-gets-requires t c = (omega (arith, c.decreases), ((sym c.requires.0 ∙ c.if-k-3.true), c.requires.2, c.requires.3))
 
-pub stmt-returns-then-k-eq6 : goal.stmt-returns-then-k-eq6
-stmt-returns-then-k-eq6 t c = c.gets.ensures
+pub stmt-returns-then-k-3 : goal.stmt-returns-then-k-3
+stmt-returns-then-k-3 t c = c.gets.ensures
 
 pub stmt-modify-requires : goal.stmt-modify-requires
-stmt-modify-requires t c = (omega (arith, c.decreases), ((sym c.requires.0 ∙ c.if-k-eq7.true), c.requires.2, c.requires.3))
+stmt-modify-requires t c = (omega (arith, c.decreases), ((sym c.requires.0 ∙ c.if-k-4.true), c.requires.2, c.requires.3))
 
-pub stmt-returns-then-k-eq7 : goal.stmt-returns-then-k-eq7
-stmt-returns-then-k-eq7 t c = c.modify.ensures
-
-pub stmt-returns-then-k-eq1 : goal.stmt-returns-then-k-eq1
-stmt-returns-then-k-eq1 t c =
-    goes_as (node_break _ _ _ (sym c.requires.0 ∙ c.if-k-eq1.true)) (stop_to _ Loop refl c.stop.ensures c.requires.3)
-
-pub stmt-returns-then-k-eq2 : goal.stmt-returns-then-k-eq2
-stmt-returns-then-k-eq2 t c =
-    goes_as (node_continue _ _ _ (sym c.requires.0 ∙ c.if-k-eq2.true)) (stop_to _ Loop refl c.stop-then-k-eq2.ensures c.requires.3)
+pub stmt-returns-then-k-4 : goal.stmt-returns-then-k-4
+stmt-returns-then-k-4 t c = c.modify.ensures
 
 pub stmt-down-requires : goal.stmt-down-requires
 stmt-down-requires t c = (omega (arith, c.decreases), (c.requires.2, c.requires.3))
 
-pub stmt-returns : goal.stmt-returns
-stmt-returns t c =
-    goes_as (node_statement _ _ _ c.args.k (sym c.requires.0) c.requires.1 c.if-k-eq1.false c.if-k-eq2.false c.if-k-eq4.false c.if-k-eq5.false c.if-k-eq6.false c.if-k-eq7.false) c.down.ensures
+pub stmt-returns-else-k-6 : goal.stmt-returns-else-k-6
+stmt-returns-else-k-6 t c =
+    goes_as (node_statement _ _ _ c.args.k (sym c.requires.0) c.requires.1 c.if-k-6.false.0 c.if-k-6.false.1 c.if-k.false c.if-k-2.false c.if-k-3.false c.if-k-4.false) c.down.ensures
 
 pub turn-assign-x-requires : goal.turn-assign-x-requires
 turn-assign-x-requires t c = (omega (arith, c.decreases), (c.requires.0, c.requires.1))
@@ -468,8 +424,32 @@ visit-loop-c-preserved t c =
     let p = c.loop-c.invariant.1 in
     let g = c.step-z.ensures in
     rw c.size_at-c.ensures.0
-    (omega (arith, c.loop-c.invariant.0), rest p c.loop-c-test.true, goes_fits g, omega arith, λ v y h. c.loop-c.invariant.4 v y (visit_on c.args.f c.args.r p c.loop-c-test.true g h))
+    (omega (arith, c.loop-c.invariant.0), rest p c.loop-c-test.true, goes_fits g, omega arith, λ v y h. c.loop-c.invariant.4 v y (visit_on c.args.f c.args.wanted p c.loop-c-test.true g h))
 
 pub visit-returns : goal.visit-returns
 visit-returns t c =
-    c.loop-c.invariant.4 _ _ (visit_last c.args.f c.args.r c.loop-c.c c.args.e c.loop-c-test.false c.loop-c.invariant.2)
+    c.loop-c.invariant.4 _ _ (visit_last c.args.f c.args.wanted c.loop-c.c c.args.e c.loop-c-test.false c.loop-c.invariant.2)
+pub one-returns-then-k : goal.one-returns-then-k
+one-returns-then-k t c = c.stmt.ensures
+
+pub one-returns-then-k-2 : goal.one-returns-then-k-2
+one-returns-then-k-2 t c = c.block.ensures
+
+pub one-returns-else-k-2 : goal.one-returns-else-k-2
+one-returns-else-k-2 t c = c.expr.ensures
+
+pub stmt-returns-then-k-6 : goal.stmt-returns-then-k-6
+stmt-returns-then-k-6 t c =
+    let e = stop_to (breaks (broken_by (node_head c.args.t.now c.args.c))) Loop refl c.stop.ensures c.requires.3 in
+    elim c.if-k-6.either [ inl q ↦ goes_as (node_break _ _ _ (sym c.requires.0 ∙ q)) e | inr q ↦ goes_as (node_continue _ _ _ (sym c.requires.0 ∙ q.1)) e ]
+
+pub expr-returns-then-k-4 : goal.expr-returns-then-k-4
+expr-returns-then-k-4 t c =
+    elim c.if-k-4.either [ inl q ↦ goes_as (node_list _ _ _ (sym c.requires.0 ∙ q)) c.comp.ensures | inr q ↦ goes_as (node_dict _ _ _ (sym c.requires.0 ∙ q.1)) c.comp.ensures ]
+
+pub over-returns-in_default : goal.over-returns-in_default
+over-returns-in_default t c = goes_as (over_none _ _ c.requires.1 (sym c.in_default.is ∙ c.requires.0)) (skips c.requires.2)
+
+pub bound-returns-in_default : goal.bound-returns-in_default
+bound-returns-in_default t c = goes_as (bound_none _ _ c.requires.1 (sym c.in_default.is ∙ c.requires.0)) (skips c.requires.2)
+

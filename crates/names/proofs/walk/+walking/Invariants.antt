@@ -20,7 +20,7 @@ decreases-later-loop-i l = l.e - l.i
 abbrev pub invariant-visit-loop-c : goal.invariant-visit-loop-c
 invariant-visit-loop-c l =
     (l.i ≤ l.c) × Part l.t l.c l.e × Fits l.w l.z × (length l.w ≡ length l.initial.w)
-    × ((v : List ℕ) (y : Scope) → Goes l.t l.d (visit_of l.t l.f (want_of l.r) l.c l.e) l.w l.z v y → Goes l.t l.d (visit_of l.t l.f (want_of l.r) l.i l.e) l.initial.w l.initial.z v y)
+    × ((v : List ℕ) (y : Scope) → Goes l.t l.d (visit_of l.t l.f (want_of l.wanted) l.c l.e) l.w l.z v y → Goes l.t l.d (visit_of l.t l.f (want_of l.wanted) l.i l.e) l.initial.w l.initial.z v y)
 
 abbrev pub decreases-visit-loop-c : goal.decreases-visit-loop-c
 decreases-visit-loop-c l = l.e - l.c

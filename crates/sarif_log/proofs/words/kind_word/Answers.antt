@@ -1,28 +1,17 @@
-use Rattle.sarif_log.proofs.Plainly.{no_kind}
-use Rattle.codes.proofs.Pieced.{letters, begins_from}
-use Rattle.sarif_log.proofs.Worded.{kind_piece, kind_short, piece_wrote}
-use Rattle.sarif_log.specs.Words.{kinds, kind_word}
-use Rattle.page.proofs.Pages.{retold, nothing_wrote}
-use Prim.Native.Nat.{◌≤◌, ◌<◌}
-use mathlib.Core.List.{◌++◌}
 use native.Mathlib.Omega.{arith}
+use mathlib.Core.List.{◌++◌}
+use Rattle.page.proofs.Pages.{added_retold, nothing_added}
+use Rattle.sarif_log.specs.Words.{kind_word}
+use Rattle.sarif_log.proofs.Plainly.{no_kind}
+use Rattle.sarif_log.proofs.Worded.{kind_short}
 use Rattle.sarif_log.proofs.words.kind_word.Goals as goal
 
-pub returns-then-kind-gt4 : goal.returns-then-kind-gt4
-returns-then-kind-gt4 c =
-    let a = c.args in
-    let h : 4 < a.kind = omega arith in
-    retold 16 (λ rest. kind_word a.kind ++ rest) (nothing_wrote a.out.now a.n) (omega arith) (λ rest. rw (no_kind a.kind h))
+pub returns-in-Ok : goal.returns-in-Ok
+returns-in-Ok c =
+    let e = rw c.in-Ok.ensures at c.kind_words.ensures in
+    added_retold 16 (λ rest. kind_word c.args.kind ++ rest) c.raw.ensures (rw e (kind_short c.args.kind)) (λ rest. rw e)
 
-pub word-requires : goal.word-requires
-word-requires c =
-    let k = c.args.kind in
-    let h : k ≤ 4 = omega arith in
-    let p = kind_piece k h in
-    (omega arith, p.ordered, p.inside)
-
-pub returns : goal.returns
-returns c =
-    let k = c.args.kind in
-    let h : k ≤ 4 = omega arith in
-    piece_wrote (letters kinds) (begins_from 0 kinds) k (kind_word k) 16 (kind_piece k h) (kind_short k) c.word.ensures
+pub returns-in_default : goal.returns-in_default
+returns-in_default c =
+    let h = c.in_default.ensures in
+    added_retold 16 (λ rest. kind_word c.args.kind ++ rest) (nothing_added c.args.w.now) (omega arith) (λ rest. rw (no_kind c.args.kind h.1))

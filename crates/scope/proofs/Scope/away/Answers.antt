@@ -41,18 +41,18 @@ returns-then-b-a c =
     (rw q z.0, rw q z.1)
 
 pub standing-k-requires : goal.standing-k-requires
-standing-k-requires c = (omega (arith, c.if-b-a.false), c.loop-b.invariant.1, c.requires.0.wide)
+standing-k-requires c = c.loop-b.invariant.1
 
 pub outside-requires : goal.outside-requires
 outside-requires c =
-    (omega (arith, c.if-b-a.false), c.loop-b.invariant.1, rw c.loop-b.invariant.0 c.requires.0, c.requires.1)
+    (c.loop-b.invariant.1, rw c.loop-b.invariant.0 c.requires.0, c.requires.1)
 
-pub shape_of-w-then-present : goal.shape_of-w-then-present
-shape_of-w-then-present c = c.outside.auto.w ∙ ap (λ (l : List ℕ). length l) c.loop-b.invariant.0
+pub shape_of-w-then-is_present : goal.shape_of-w-then-is_present
+shape_of-w-then-is_present c = c.outside.auto.w ∙ ap (λ (l : List ℕ). length l) c.loop-b.invariant.0
 
-pub returns-then-present : goal.returns-then-present
+pub returns-then-is_present : goal.returns-then-is_present
 unfolding away_scope away_words
-returns-then-present c =
+returns-then-is_present c =
     let t = c.args.t.now in
     let w = c.args.w.now in
     let s = c.args.self in
@@ -61,7 +61,7 @@ returns-then-present c =
     let e : c.word_at-a.result ≡ base_in w (b - 1) = c.word_at-a.ensures.0 ∙ ap (λ (l : List ℕ). base_in l (b - 1)) c.loop-b.invariant.0 in
     let k : c.standing-k.result ≡ standing_in t w s.entries c.word_at-a.result b i = c.standing-k.ensures ∙ ap (λ (l : List ℕ). standing_in t l s.entries c.word_at-a.result b i) c.loop-b.invariant.0 in
     let m : c.standing-k.result ≡ standing_in t w s.entries (base_in w (b - 1)) b i = k ∙ ap (λ (a : ℕ). standing_in t w s.entries a b i) e in
-    let p : present_of (standing_in t w s.entries (base_in w (b - 1)) b i) ≡ true = ap present_of (sym m) ∙ sym c.present.ensures ∙ c.if-present.true in
+    let p : present_of (standing_in t w s.entries (base_in w (b - 1)) b i) ≡ true = ap present_of (sym m) ∙ sym c.is_present.ensures ∙ c.if-is_present.true in
     let q : outward_of t w s i ≡ b = outward-is t w s i ∙ c.loop-b.invariant.2 ∙ outward_here t w s.entries i b c.loop-b-test.true (rw e at c.if-b-a.false) p in
     let n : eqb b 0 ≡ false = ne_eqb b 0 (λ y. omega (arith, y, c.loop-b-test.true)) in
     let z = rw c.loop-b.invariant.0 at c.outside.ensures in
@@ -80,7 +80,7 @@ loop-b-preserved c =
     let e : c.word_at-a.result ≡ base_in w (b - 1) = c.word_at-a.ensures.0 ∙ ap (λ (l : List ℕ). base_in l (b - 1)) c.loop-b.invariant.0 in
     let k : c.standing-k.result ≡ standing_in t w s.entries c.word_at-a.result b i = c.standing-k.ensures ∙ ap (λ (l : List ℕ). standing_in t l s.entries c.word_at-a.result b i) c.loop-b.invariant.0 in
     let m : c.standing-k.result ≡ standing_in t w s.entries (base_in w (b - 1)) b i = k ∙ ap (λ (a : ℕ). standing_in t w s.entries a b i) e in
-    let p : present_of (standing_in t w s.entries (base_in w (b - 1)) b i) ≡ false = ap present_of (sym m) ∙ sym c.present.ensures ∙ c.if-present.false in
+    let p : present_of (standing_in t w s.entries (base_in w (b - 1)) b i) ≡ false = ap present_of (sym m) ∙ sym c.is_present.ensures ∙ c.if-is_present.false in
     (c.loop-b.invariant.0, omega (arith, c.if-b-a.false, c.loop-b.invariant.1), rw e (c.loop-b.invariant.2 ∙ outward_on t w s.entries i b c.loop-b-test.true (rw e at c.if-b-a.false) p))
 
 pub nowhere-requires-2 : goal.nowhere-requires-2

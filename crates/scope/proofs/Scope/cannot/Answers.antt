@@ -3,4 +3,4 @@ use Rattle.scope.proofs.Scope.cannot.Goals as goal
 
 pub returns : goal.returns
 unfolding cannot_scope cannot_words
-returns c = (rw c.join_list-e.ensures.0, c.join_list-e.ensures.1)
+returns c = (rw (c.join_list.ensures.0, c.cant_set.ensures.0, c.cant_set.ensures.1), rw (c.cant_set.ensures.0, c.cant_set.ensures.1) at c.join_list.ensures.1)

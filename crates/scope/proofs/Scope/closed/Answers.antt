@@ -10,10 +10,10 @@ pub returns-then-globals_given : goal.returns-then-globals_given
 unfolding closed_of farewell_of late_of unknown_of
 returns-then-globals_given c =
     let e : eqb (global_count c.args.t.now) 65535 ≡ false = not-true _ (sym c.globals_given.ensures ∙ c.if-globals_given.true) in
-    (c.warn_uses.ensures.0 ∙ rw (e, c.idle-m.ensures.0, c.idle-m.ensures.1, c.warn_uses-n.ensures.0, c.warn_uses-n.ensures.1), c.warn_uses.ensures.1 ∙ rw (e, c.idle-m.ensures.0, c.idle-m.ensures.1, c.warn_uses-n.ensures.0, c.warn_uses-n.ensures.1), c.warn_uses.ensures.2)
+    (c.warn_uses.ensures.0 ∙ rw (e, c.unbound.ensures.0, c.unbound.ensures.1, c.idle-idle.ensures.0, c.idle-idle.ensures.1, c.warn_uses-late.ensures.0, c.warn_uses-late.ensures.1, c.cant_set.ensures.0, c.cant_set.ensures.1), c.warn_uses.ensures.1 ∙ rw (e, c.unbound.ensures.0, c.unbound.ensures.1, c.idle-idle.ensures.0, c.idle-idle.ensures.1, c.warn_uses-late.ensures.0, c.warn_uses-late.ensures.1, c.cant_set.ensures.0, c.cant_set.ensures.1), c.warn_uses.ensures.2)
 
-pub returns : goal.returns
+pub returns-else-globals_given : goal.returns-else-globals_given
 unfolding closed_of farewell_of late_of unknown_of
-returns c =
+returns-else-globals_given c =
     let e : eqb (global_count c.args.t.now) 65535 ≡ true = not-false _ (sym c.globals_given.ensures ∙ c.if-globals_given.false) in
-    (c.idle-m.ensures.0 ∙ rw (e, c.warn_uses-n.ensures.0, c.warn_uses-n.ensures.1), c.idle-m.ensures.1 ∙ rw (e, c.warn_uses-n.ensures.0, c.warn_uses-n.ensures.1), c.idle-m.ensures.2)
+    (c.idle-idle.ensures.0 ∙ rw (e, c.warn_uses-late.ensures.0, c.warn_uses-late.ensures.1, c.cant_set.ensures.0, c.cant_set.ensures.1), c.idle-idle.ensures.1 ∙ rw (e, c.warn_uses-late.ensures.0, c.warn_uses-late.ensures.1, c.cant_set.ensures.0, c.cant_set.ensures.1), c.idle-idle.ensures.2)

@@ -1,6 +1,7 @@
+use mathlib.Core.Path.{refl}
 use Rattle.scope.specs.Words.{new_scope}
 use Rattle.scope.proofs.Scope.new.Goals as goal
 
 pub returns : goal.returns
 unfolding new_scope
-returns c = rw c.gone-e.ensures
+returns c = refl

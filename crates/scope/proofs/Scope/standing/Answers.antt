@@ -1,16 +1,16 @@
-use borrow.Author.Tests.{lt-ltb, le-ltb}
-use Rattle.scope.specs.Words.{find_in, standing_in}
+use Rattle.scope.specs.Words.{standing_in}
 use Rattle.scope.specs.declared.table.Like.TheVariants.{Name}
+use Rattle.scope.proofs.Find.{found_some, found_none}
 use Rattle.scope.proofs.Scope.standing.Goals as goal
 
-pub returns-then-p-b : goal.returns-then-p-b
+pub returns-in-Some : goal.returns-in-Some
 unfolding standing_in
-returns-then-p-b c =
-    let h = lt-ltb (find_in c.args.t.now c.args.w.now Name c.args.a c.args.b c.args.i) c.args.b (rw c.find-p.ensures.0 at c.if-p-b.true) in
-    rw (c.entry-e.ensures, c.find-p.ensures.0, h)
+returns-in-Some c =
+    let f = found_some c.args.t.now c.args.w.now Name c.args.i c.args.at.from c.args.at.to c.in-Some.p c.in-Some.ensures.place in
+    rw (f.0, f.1)
 
-pub returns : goal.returns
+pub returns-in-None : goal.returns-in-None
 unfolding standing_in
-returns c =
-    let h = le-ltb (find_in c.args.t.now c.args.w.now Name c.args.a c.args.b c.args.i) c.args.b (rw c.find-p.ensures.0 at c.if-p-b.false) in
-    rw h
+returns-in-None c =
+    let f = found_none c.args.t.now c.args.w.now Name c.args.i c.args.at.from c.args.at.to c.in-None.ensures.place in
+    rw f

@@ -3,4 +3,4 @@ use Rattle.scope.proofs.Scope.unbinds.Goals as goal
 
 pub returns : goal.returns
 unfolding unbinds_scope unbinds_words
-returns c = (rw c.join_list-e.ensures.0, c.join_list-e.ensures.1)
+returns c = (rw (c.join_list.ensures.0, c.unbound.ensures.0, c.unbound.ensures.1), rw (c.unbound.ensures.0, c.unbound.ensures.1) at c.join_list.ensures.1)

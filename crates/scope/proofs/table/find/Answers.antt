@@ -1,29 +1,29 @@
-use native.Mathlib.Omega.{arith}
-use mathlib.Core.Path.{◌≡◌, refl, sym, ◌∙◌}
+use mathlib.Core.Path.{◌≡◌, sym, ◌∙◌}
 use mathlib.Core.Bool.{true, false}
+use borrow.Author.Tests.{lt-ltb, le-ltb}
 use Rattle.scope.specs.State.{node_in}
-use Rattle.scope.specs.Words.{alike_at}
+use Rattle.scope.specs.Words.{alike_at, find_in}
 use Rattle.scope.proofs.Find.{find_hit, find_miss, find_end}
-use borrow.Author.Rules.{rules}
 use Rattle.scope.proofs.table.find.Goals as goal
 
-pub loop-j-init : goal.loop-j-init
-loop-j-init c = (omega arith, search rules, refl)
-
-pub returns-then-alike : goal.returns-then-alike
-returns-then-alike c =
+pub returns-then-alike-clause-place : goal.returns-then-alike-clause-place
+returns-then-alike-clause-place c =
     let t = c.args.t.now in
     let w = c.args.w.now in
     let e : alike_at t c.args.how c.args.i (node_in w c.loop-j.j) ≡ true = rw (← c.word_at.ensures.0) (sym c.alike.ensures ∙ c.if-alike.true) in
-    (sym (c.loop-j.invariant.2 ∙ find_hit t w c.args.how c.args.i c.loop-j.j c.args.b c.loop-j-test.true e), omega arith)
+    let f : find_in t w c.args.how c.args.at.from c.args.at.to c.args.i ≡ c.loop-j.j = c.loop-j.invariant ∙ find_hit t w c.args.how c.args.i c.loop-j.j c.args.at.to c.loop-j-test.true e in
+    rw (f, lt-ltb c.loop-j.j c.args.at.to c.loop-j-test.true)
 
 pub loop-j-preserved : goal.loop-j-preserved
 loop-j-preserved c =
     let t = c.args.t.now in
     let w = c.args.w.now in
     let e : alike_at t c.args.how c.args.i (node_in w c.loop-j.j) ≡ false = rw (← c.word_at.ensures.0) (sym c.alike.ensures ∙ c.if-alike.false) in
-    (omega arith, omega arith, c.loop-j.invariant.2 ∙ find_miss t w c.args.how c.args.i c.loop-j.j c.args.b c.loop-j-test.true e)
+    c.loop-j.invariant ∙ find_miss t w c.args.how c.args.i c.loop-j.j c.args.at.to c.loop-j-test.true e
 
-pub returns : goal.returns
-returns c =
-    (sym (c.loop-j.invariant.2 ∙ find_end c.args.t.now c.args.w.now c.args.how c.args.i c.loop-j.j c.args.b c.loop-j-test.false), omega arith)
+pub returns-clause-place : goal.returns-clause-place
+returns-clause-place c =
+    let t = c.args.t.now in
+    let w = c.args.w.now in
+    let f : find_in t w c.args.how c.args.at.from c.args.at.to c.args.i ≡ c.loop-j.j = c.loop-j.invariant ∙ find_end t w c.args.how c.args.i c.loop-j.j c.args.at.to c.loop-j-test.false in
+    rw (f, le-ltb c.loop-j.j c.args.at.to c.loop-j-test.false)

@@ -1,18 +1,16 @@
 use native.Mathlib.Omega.{arith}
-use Rattle.scope.proofs.Steps.{warn_there, warn_more, warn_full}
+use mathlib.Core.Path.{◌∙◌}
+use Rattle.scope.proofs.Steps.{warn_joins}
+use Rattle.scope.proofs.table.warn.Goals.{then-warned-end, else-warned-end}
 use Rattle.scope.proofs.table.warn.Goals as goal
-
-pub returns-then-p-e : goal.returns-then-p-e
-returns-then-p-e c =
-    let j = warn_there c.args.t.now c.args.w.now c.args.n c.args.code c.args.i (rw c.find-p.ensures.0 at c.if-p-e.true) in
-    (j.0, j.1, omega arith)
-
-pub returns-then-n-lt1024 : goal.returns-then-n-lt1024
-returns-then-n-lt1024 c =
-    let j = warn_more c.args.t.now c.args.w.now c.args.n c.args.code c.args.i (rw c.find-p.ensures.0 at c.if-p-e.false) c.if-n-lt1024.true in
-    (j.0, rw (c.store-then-n-lt1024.ensures, c.store.ensures) j.1, omega arith)
 
 pub returns : goal.returns
 returns c =
-    let j = warn_full c.args.t.now c.args.w.now c.args.n c.args.code c.args.i (rw c.find-p.ensures.0 at c.if-p-e.false) c.if-n-lt1024.false in
-    (j.0, j.1, omega arith)
+    let j = warn_joins c.args.t.now c.args.w.now c.args.n c.args.code c.args.i c.join_list-end.result c.join_list-end.new.w (omega arith) c.join_list-end.ensures.0 c.join_list-end.ensures.1 in (
+      j.0,
+      elim c.if-warned-end.branch [
+        | then-warned-end w ↦ w.w-is ∙ w.store.ensures ∙ j.2 w.if-warned-end.true
+        | else-warned-end w ↦ w.w-is ∙ j.3 w.if-warned-end.false
+      ],
+      j.1,
+    )

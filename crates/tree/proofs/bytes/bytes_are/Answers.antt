@@ -1,4 +1,3 @@
-use borrow.Author.Rules.{rules}
 use Prim.Native.Nat.{◌+◌, ◌-◌}
 use native.Mathlib.Omega.{arith}
 use mathlib.Core.Path.{◌≡◌, sym, ◌∙◌}
@@ -10,15 +9,15 @@ pub loop-i-init : goal.loop-i-init
 loop-i-init c =
     let o = c.args.o in
     let name = c.args.name.now in
-    let p : length name - 0 ≡ length name = omega arith in let q : o + 0 ≡ o = omega arith in (search rules, rw (p, q))
+    let p : length name - 0 ≡ length name = omega arith in let q : o + 0 ≡ o = omega arith in rw (p, q)
 
-pub returns-then-byte_at : goal.returns-then-byte_at
-returns-then-byte_at c =
+pub returns-then-byte_at-from : goal.returns-then-byte_at-from
+returns-then-byte_at-from c =
     let t = c.args.t.now in
     let o = c.args.o in
     let name = c.args.name.now in
     let i = c.loop-i.i in
-    sym (same_differ t name o i (omega arith) (λ q. c.if-byte_at.true (c.byte_at.ensures.0 ∙ q ∙ sym c.byte_at-in-loop-i.ensures.0))) ∙ c.loop-i.invariant.1
+    sym (same_differ t name o i c.loop-i-test.true (λ q. c.if-byte_at-from.true (c.byte_at.ensures.0 ∙ q ∙ sym c.from.ensures))) ∙ c.loop-i.invariant
 
 pub loop-i-preserved : goal.loop-i-preserved
 loop-i-preserved c =
@@ -26,7 +25,7 @@ loop-i-preserved c =
     let o = c.args.o in
     let name = c.args.name.now in
     let i = c.loop-i.i in
-    (search rules, same_next t name o i (omega arith) (sym c.byte_at.ensures.0 ∙ c.if-byte_at.false ∙ c.byte_at-in-loop-i.ensures.0) ∙ c.loop-i.invariant.1)
+    same_next t name o i c.loop-i-test.true (sym c.byte_at.ensures.0 ∙ c.if-byte_at-from.false ∙ c.from.ensures) ∙ c.loop-i.invariant
 
 pub returns : goal.returns
 returns c =
@@ -34,4 +33,4 @@ returns c =
     let o = c.args.o in
     let name = c.args.name.now in
     let i = c.loop-i.i in
-    sym (same_end t name o i (omega arith)) ∙ c.loop-i.invariant.1
+    sym (same_end t name o i (omega arith)) ∙ c.loop-i.invariant

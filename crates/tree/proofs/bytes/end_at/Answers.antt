@@ -1,7 +1,8 @@
-use borrow.Author.Rules.{rules}
-use Rattle.tree.specs.Bytes.{end_at}
+use mathlib.Core.Path.{◌∙◌}
+use Rattle.tree.specs.Bytes.{node_at, end_at}
+use Rattle.tree.proofs.Past.{u32_there}
 use Rattle.tree.proofs.bytes.end_at.Goals as goal
 
 pub returns : goal.returns
 unfolding end_at
-returns c = search rules
+returns c = (c.u32_at.ensures.0 ∙ u32_there c.args.t.now (node_at c.args.i) c.start_of.result 8 c.start_of.ensures.0, c.u32_at.ensures.1)

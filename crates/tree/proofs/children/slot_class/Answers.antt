@@ -1,9 +1,7 @@
-use mathlib.Core.Path.{◌∙◌}
-use Rattle.tree.proofs.Slots.{class_list, class_at}
+use mathlib.Core.Path.{sym}
+use Rattle.tree.proofs.Slots.{form, form_list, form_class}
 use Rattle.tree.proofs.children.slot_class.Goals as goal
 
 pub returns : goal.returns
-unfolding class_list
-returns c =
-    c.widen.ensures.0
-    ∙ (rw c.slot_number.ensures.0 (class_at c.args.k c.args.r))
+unfolding form_list
+returns c = form_class (form 0 0 0) c.args.k c.args.r c.slot_number.result c.slot_number.ensures.1 (sym c.slot_number.ensures.0)

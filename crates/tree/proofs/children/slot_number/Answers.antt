@@ -1,22 +1,19 @@
 use borrow.Author.Rules.{rules}
-use native.Mathlib.Omega.{arith}
 use mathlib.Core.Path.{sym}
+use mathlib.Core.Logic.{inl, inr}
 use Rattle.tree.specs.code.Packed.{rows}
-use Rattle.tree.proofs.Slots.{digit_far, digit_past, digit_read, digit_small, power_list, power_some}
+use Rattle.tree.proofs.Slots.{digit_far, digit_past, digit_read, digit_small}
 use Rattle.tree.proofs.children.slot_number.Goals as goal
 
-pub returns-then-k-ge48 : goal.returns-then-k-ge48
-returns-then-k-ge48 c = (sym (digit_far c.args.k c.args.r c.if-k-ge48.true), search rules)
+pub returns-then-r-lt9 : goal.returns-then-r-lt9
+unfolding rows
+returns-then-r-lt9 c =
+    let e = digit_read c.args.k c.args.r c.if-k-lt48.true c.if-r-lt9.true in
+    (e, rw e (digit_small c.args.k c.args.r c.if-k-lt48.true c.if-r-lt9.true))
 
-pub returns-then-r-ge9 : goal.returns-then-r-ge9
-returns-then-r-ge9 c = (sym (digit_past c.args.k c.args.r c.if-r-ge9.true), search rules)
-
-pub nonzero_div-result : goal.nonzero_div-result
-unfolding power_list
-nonzero_div-result c = power_some c.args.r (omega arith)
-
-pub returns : goal.returns
-unfolding rows power_list
-returns c =
-    let e = digit_read c.args.k c.args.r (omega arith) (omega arith) in
-    (e, rw e (digit_small c.args.k c.args.r (omega arith) (omega arith)))
+pub returns-else-k-lt48 : goal.returns-else-k-lt48
+returns-else-k-lt48 c =
+    elim c.else-k-lt48.either [
+      | inl w ↦ (sym (digit_past c.args.k c.args.r w.1), search rules)
+      | inr w ↦ (sym (digit_far c.args.k c.args.r w), search rules)
+    ]

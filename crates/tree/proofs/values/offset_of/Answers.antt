@@ -1,22 +1,11 @@
--- The invariant: at is where value i starts.
-use borrow.Author.Rules.{rules}
 use native.Mathlib.Omega.{arith}
-use mathlib.Core.Path.{◌≡◌, refl, sym}
-use Rattle.tree.proofs.ValueLaws.{offset_next, offset_start}
+use mathlib.Core.Path.{sym}
+use Rattle.tree.proofs.ValueLaws.{offset_start, offset_step}
 use Rattle.tree.proofs.values.offset_of.Goals as goal
 
 pub loop-i-init : goal.loop-i-init
-loop-i-init c =
-    let t = c.args.t.now in
-    let n = c.args.n in
-    (search rules, (search rules, sym (offset_start t n)))
+loop-i-init c = (omega arith, sym (offset_start c.args.t.now c.args.n))
 
 pub loop-i-preserved : goal.loop-i-preserved
 loop-i-preserved c =
-    let e = c.u16_at.ensures.0 in let f = c.loop-i.invariant.1.1 in (search rules, (omega arith, rw offset_next (rw (← f) (rw (← e) refl))))
-
-pub returns : goal.returns
-returns c =
-    let v = c.args.v in
-    let i = c.loop-i.i in
-    let f = c.loop-i.invariant.1.1 in let q : i ≡ v = omega arith in (rw q at f, omega arith)
+    (omega (arith, c.u16_at.ensures.1), offset_step c.args.t.now c.args.n c.loop-i.i c.loop-i.at c.u16_at.result c.loop-i.invariant.1 c.u16_at.ensures.0)
