@@ -162,3 +162,8 @@ byte_added w w' b e c h r =
       wrote = subst (λ (k : ℕ). Wrote o n w'.out.now k 1 (λ rest. b ∷ rest)) (sym (c ∙ one_more_min n h)) stored;
       same_room = r;
     }
+
+-- what a writer that began with an empty page has written
+pub from_start : {w w' : Writer} {o : List ℕ} {k : ℕ} {f : List ℕ → List ℕ} → w.out.now ≡ o → w.count ≡ 0 → Added w w' k f
+    → Wrote o 0 w'.out.now w'.count k f
+from_start p q a = rw (p, q) at a.wrote

@@ -1,5 +1,5 @@
 -- 02, §1: what a call of sarif answers, and how it leaves the words and bytes that it was lent. Assumes nothing.
-use Rattle.std.specs.Prelude.{Ok, Err}
+use Rattle.std.specs.Prelude.{Result, Ok, Err}
 use Rattle.std.specs.Prelude.{ℕ, List, [], ◌∷◌, ◌++◌, length, drop}
 use Rattle.std.proofs.Math.Option.{Option, none, some}
 use Rattle.tree.specs.Judge.{judged}
@@ -10,6 +10,11 @@ use Rattle.rules.specs.Outcome.{Check, the_file, work_room, answer_room, other_r
 use Rattle.rules.specs.declared.Refusal.{Refusal}
 use Rattle.sarif_log.specs.Log.{log}
 use Rattle.sarif.specs.declared.Answer.{Answer}
+use Rattle.sarif.specs.declared.Sizes.{Sizes}
+
+-- what a call comes to: what was written, or why it is refused
+abbrev pub Outcome : Type 0
+Outcome = Result Sizes Refusal
 
 -- "12 output room short, after 11, place is the bytes needed": the checks of a call that gives the list rs of the file t
 abbrev pub checks : List Rec → List ℕ → List ℕ → List ℕ → List ℕ → List Check

@@ -2,65 +2,37 @@
 // 12 among them, writes neither a warning nor a byte of the log.
 #![tactic(auto)]
 
-ghost use Rattle.std.specs.Prelude.{◌≡◌, ◌++◌, ◌≤◌, length, take, drop};
+ghost use Rattle.std.specs.Prelude.{◌≡◌};
 ghost use Rattle.rules.specs.Joined.{no_tally};
 ghost use Rattle.rules.specs.Afterwards.{records_in};
 ghost use Rattle.sarif.specs.Telling.{Listed, Tells};
 ghost use Rattle.sarif.specs.Calls.{sarif_call};
 
-use rules::{CODES, Outcome as Linted, Refusal, WIDTH};
+use rules::{CODES, Refusal, WIDTH};
 use tree::Mode;
 
 // The words of the call's own room: no valid file has more than 10,240 records.
 const ROOM: usize = WIDTH * 10240;
 
 // What was written: records into the answer room, bytes into the output room.
-#[derive(Clone, Copy)]
+#[derive(Clone, Copy, Debug, PartialEq, Eq)]
 pub struct Sizes {
     pub records: usize,
     pub bytes: usize,
 }
 
-#[derive(Clone, Copy)]
-pub enum Outcome {
-    Logged(Sizes),
-    Refused(Refusal),
-}
-
-#[derive(Clone, Copy)]
+#[derive(Clone, Copy, Debug, PartialEq, Eq)]
 pub struct Answer {
-    pub outcome: Outcome,
+    pub outcome: Result<Sizes, Refusal>,
     pub tally: [usize; CODES],
 }
 
 fn refused(why: Refusal) -> Answer
     ensures { (result.outcome ≡ Err why) × (result.tally ≡ no_tally) }
 {
-    let zero = [0; CODES];
     Answer {
         outcome: Err(why),
-        tally: zero,
-    }
-}
-
-fn logged(records: usize, bytes: usize, tally: [usize; CODES]) -> Answer
-    ensures { (result.outcome ≡ Ok (record { records = records; bytes = bytes })) × (result.tally ≡ tally) }
-{
-    Answer {
-        outcome: Ok(Sizes { records, bytes }),
-        tally,
-    }
-}
-
-// The first n words.
-fn copy(list: &[u32], answer: &mut [u32], n: usize)
-    requires { (n ≤ length list.now) × (n ≤ length answer.old) }
-    ensures { answer.new ≡ take n list.now ++ drop n answer.old }
-{
-    let mut i = 0;
-    while i < n {
-        answer[i] = list[i];
-        i += 1;
+        tally: [0; CODES],
     }
 }
 
@@ -84,9 +56,16 @@ fn tell(
     if output.len() < needed {
         return refused(Refusal::OtherRoom(needed));
     }
-    copy(list, answer, WIDTH * n);
+    let words = WIDTH * n;
+    answer[..words].copy_from_slice(&list[..words]);
     sarif_log::log(output, t, &starts, list, n, tally);
-    logged(n, needed, tally)
+    Answer {
+        outcome: Ok(Sizes {
+            records: n,
+            bytes: needed,
+        }),
+        tally,
+    }
 }
 
 // Every call is this one: the log, or one numbered refusal.
@@ -101,10 +80,8 @@ pub fn sarif(
 {
     let mut list = [0u32; ROOM];
     let a = lint::lint(t, mode, work, &mut list);
-    let o = a.outcome;
-    let tally = a.tally;
-    match o {
-        Ok(n) => tell(t, &list, n, tally, answer, output),
+    match a.outcome {
+        Ok(n) => tell(t, &list, n, a.tally, answer, output),
         Err(why) => refused(why),
     }
 }

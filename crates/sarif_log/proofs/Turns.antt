@@ -12,8 +12,7 @@ use lib.ListN.{length, take, drop, get_or, drop_of_length-le}
 use lib.Seq.{drop-cons, drop-drop, get_or-drop, take_all}
 use Rattle.rules.specs.Record.{Rec}
 use Rattle.rules.specs.Afterwards.{record_in, records_in}
-use Rattle.page.specs.declared.Writer.{Writer}
-use Rattle.page.specs.Page.{page, writes, Wrote, Added}
+use Rattle.page.specs.Page.{page, writes, Wrote}
 use Rattle.json_text.specs.Text.{comma, text, lines}
 use Rattle.sarif_log.specs.Log.{nonzeros, index_of, result, results, rule, if_any, rules}
 use Rattle.sarif_log.specs.Pieces.{rule_line}
@@ -82,11 +81,6 @@ index_met tally code b k i l e h q =
     go : (x : Bool) → leb (code - 1) codes ≡ x → nonzeros (take b tally) ≡ nonzeros (take (code - 1) tally)
     go true r = let z : b ≡ code - 1 = omega (arith, leb-true (code - 1) codes r) in rw z
     go false r = let m = leb-false (code - 1) codes r in nonzeros_past tally b (code - 1) (omega arith) (omega arith)
-
--- what a writer that began with an empty page has written
-pub from_start : {w w' : Writer} {o : List ℕ} {k : ℕ} {f : List ℕ → List ℕ} → w.out.now ≡ o → w.count ≡ 0 → Added w w' k f
-    → Wrote o 0 w'.out.now w'.count k f
-from_start p q a = rw (p, q) at a.wrote
 
 -- ---- the rules from a code on
 

@@ -11,8 +11,9 @@ use lib.Seq.{drop-cons, drop-drop, get_or-drop}
 use borrow.Author.Tests.{eqb-true, eqb-false}
 use Rattle.base.specs.Ascii.{ascii}
 use Rattle.page.specs.Digits.{decimal}
-use Rattle.page.specs.Page.{Wrote}
-use Rattle.page.proofs.Pages.{then, retold, nothing_wrote}
+use Rattle.page.specs.declared.Writer.{Writer}
+use Rattle.page.specs.Page.{Added}
+use Rattle.page.proofs.Pages.{added_then, added_retold, nothing_added}
 use Rattle.rules.specs.Record.{words, width}
 use Rattle.rules.specs.Joined.{codes}
 use Rattle.rules.specs.Outcome.{number_of, place_of}
@@ -88,35 +89,35 @@ records_end room many r h = let z : many - r ≡ 0 = omega arith in rw z
 
 -- ---- what functions wrote
 
-module _ {o o₁ o₂ : List ℕ} {n n₁ n₂ j : ℕ} where
-  pub ended_wrote : (k x : ℕ) (last : Bool) → Wrote o n o₁ n₁ j (λ rest. decimal x ++ rest) → Wrote o₁ n₁ o₂ n₂ 1 (λ rest. end_of last ∷ rest)
-      → j + 1 ≤ k → Wrote o n o₂ n₂ k (λ rest. ended x last ++ rest)
-  ended_wrote k x last p q h =
-      retold k (λ rest. ended x last ++ rest) (then p q) h (λ rest. sym (append_assoc (decimal x) (end_of last ∷ []) rest))
+module _ {w w₁ w₂ : Writer} {j : ℕ} where
+  pub ended_added : (k x : ℕ) (last : Bool) → Added w w₁ j (λ rest. decimal x ++ rest) → Added w₁ w₂ 1 (λ rest. end_of last ∷ rest)
+      → j + 1 ≤ k → Added w w₂ k (λ rest. ended x last ++ rest)
+  ended_added k x last p q h =
+      added_retold k (λ rest. ended x last ++ rest) (added_then p q) h (λ rest. sym (append_assoc (decimal x) (end_of last ∷ []) rest))
 
-module _ {o o₁ o₂ o₃ : List ℕ} {n₁ n₂ n₃ : ℕ} where
-  pub listing_wrote : (room : List ℕ) (many : ℕ) → Wrote o 0 o₁ n₁ (11 * width * many) (λ rest. records (records_in many room) ++ rest)
-      → Wrote o₁ n₁ o₂ n₂ 6 (λ rest. ascii "total " ++ rest) → Wrote o₂ n₂ o₃ n₃ 21 (λ rest. line (many ∷ []) ++ rest)
-      → Wrote o 0 o₃ n₃ (11 * width * many + 27) (λ rest. listing (records_in many room) ++ rest)
+module _ {w w₁ w₂ w₃ : Writer} where
+  pub listing_added : (room : List ℕ) (many : ℕ) → Added w w₁ (11 * width * many) (λ rest. records (records_in many room) ++ rest)
+      → Added w₁ w₂ 6 (λ rest. ascii "total " ++ rest) → Added w₂ w₃ 21 (λ rest. line (many ∷ []) ++ rest)
+      → Added w w₃ (11 * width * many + 27) (λ rest. listing (records_in many room) ++ rest)
   unfolding listing
-  listing_wrote room many p q r =
-      retold (11 * width * many + 27) (λ rest. listing (records_in many room) ++ rest) (then p (then q r)) (omega arith)
+  listing_added room many p q r =
+      added_retold (11 * width * many + 27) (λ rest. listing (records_in many room) ++ rest) (added_then p (added_then q r)) (omega arith)
       (λ rest. sym
       (append_assoc (records (records_in many room)) (ascii "total " ++ line (length (records_in many room) ∷ [])) rest
       ∙ ap (λ (k : ℕ). records (records_in many room) ++ (ascii "total " ++ (line (k ∷ []) ++ rest))) (length_records many room)))
 
-module _ {o o₁ o₂ : List ℕ} {n n₁ n₂ : ℕ} where
-  pub refused_wrote : (why : Refusal) {number place : ℕ} → number ≡ number_of why → place ≡ place_of why
-      → Wrote o n o₁ n₁ 8 (λ rest. ascii "refused " ++ rest) → Wrote o₁ n₁ o₂ n₂ 42 (λ rest. line (number ∷ place ∷ []) ++ rest)
-      → Wrote o n o₂ n₂ 50 (λ rest. refused why ++ rest)
+module _ {w w₁ w₂ : Writer} where
+  pub refused_added : (why : Refusal) {number place : ℕ} → number ≡ number_of why → place ≡ place_of why
+      → Added w w₁ 8 (λ rest. ascii "refused " ++ rest) → Added w₁ w₂ 42 (λ rest. line (number ∷ place ∷ []) ++ rest)
+      → Added w w₂ 50 (λ rest. refused why ++ rest)
   unfolding refused
-  refused_wrote why e f p q = retold 50 (λ rest. refused why ++ rest) (then p q) (omega arith) (λ rest. rw (e, f))
+  refused_added why e f p q = added_retold 50 (λ rest. refused why ++ rest) (added_then p q) (omega arith) (λ rest. rw (e, f))
 
-  pub tally_wrote : (asked : Bool) (ns : List ℕ) → asked ≡ true → length ns ≡ codes → Wrote o n o₁ n₁ 6 (λ rest. ascii "tally " ++ rest)
-      → Wrote o₁ n₁ o₂ n₂ (21 * length ns) (λ rest. line ns ++ rest) → Wrote o n o₂ n₂ (6 + 21 * codes) (λ rest. tally_line asked ns ++ rest)
-  tally_wrote asked ns e l p q =
-      retold (6 + 21 * codes) (λ rest. tally_line asked ns ++ rest) (then p q) (omega arith) (λ rest. rw e)
+  pub tally_added : (asked : Bool) (ns : List ℕ) → asked ≡ true → length ns ≡ codes → Added w w₁ 6 (λ rest. ascii "tally " ++ rest)
+      → Added w₁ w₂ (21 * length ns) (λ rest. line ns ++ rest) → Added w w₂ (6 + 21 * codes) (λ rest. tally_line asked ns ++ rest)
+  tally_added asked ns e l p q =
+      added_retold (6 + 21 * codes) (λ rest. tally_line asked ns ++ rest) (added_then p q) (omega arith) (λ rest. rw e)
 
-pub tally_none : {o : List ℕ} {n : ℕ} (asked : Bool) (ns : List ℕ) → asked ≡ false
-    → Wrote o n o n (6 + 21 * codes) (λ rest. tally_line asked ns ++ rest)
-tally_none {o = o} {n = n} asked ns e = retold (6 + 21 * codes) (λ rest. tally_line asked ns ++ rest) (nothing_wrote o n) (omega arith) (λ rest. rw e)
+pub tally_none : (w : Writer) (asked : Bool) (ns : List ℕ) → asked ≡ false
+    → Added w w (6 + 21 * codes) (λ rest. tally_line asked ns ++ rest)
+tally_none w asked ns e = added_retold (6 + 21 * codes) (λ rest. tally_line asked ns ++ rest) (nothing_added w) (omega arith) (λ rest. rw e)

@@ -1,12 +1,10 @@
-use Prim.Native.Nat.{◌*◌, ◌-◌, ◌≤◌}
-use mathlib.Core.Path.{◌≡◌}
-use lib.ListN.{length, drop}
-use Rattle.page.proofs.Going.{Going}
-use Rattle.text.specs.Text.{line}
+use Prim.Native.Nat.{◌*◌, ◌-◌}
+use lib.ListN.{drop}
+use Rattle.page.proofs.Going.{Adding}
+use Rattle.rules.specs.Record.{words, width}
+use Rattle.rules.specs.Afterwards.{record_in, records_in}
+use Rattle.text.specs.Text.{line, records}
 use Rattle.text.proofs.counts.Given as goal
 
 abbrev pub invariant-loop-k : goal.invariant-loop-k
-invariant-loop-k l = (l.k ≤ length l.ns) × (length l.out ≡ length l.initial.out) × Going l.initial.out l.n l.out l.at (21 * l.k) (line (drop l.k l.ns)) (line l.ns)
-
-abbrev pub decreases-loop-k : goal.decreases-loop-k
-decreases-loop-k l = length l.ns - l.k
+invariant-loop-k l = Adding l.initial.w l.w (21 * l.k) (line (drop l.k l.ns)) (line l.ns)

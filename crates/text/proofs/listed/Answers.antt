@@ -1,8 +1,18 @@
--- The records, then total and their count. Assumes nothing.
-use Rattle.text.proofs.Lines.{listing_wrote}
+use Prim.Native.Nat.{◌+◌, ◌*◌, ◌-◌, ◌≤◌}
+use native.Mathlib.Omega.{arith}
+use mathlib.Core.Path.{◌≡◌, refl, sym, ◌∙◌}
+use mathlib.Core.List.{◌∷◌}
+use lib.Dec.{eqb}
+use lib.ListN.{length, get_or, drop}
+use Rattle.page.proofs.Pages.{added_then, added_retold, from_start}
+use Rattle.page.proofs.Going.{adding_first, adding_next, adding_last}
+use Rattle.rules.specs.Record.{words, width}
+use Rattle.rules.specs.Afterwards.{record_in, records_in}
+use Rattle.text.specs.Text.{line, records}
+use Rattle.text.specs.Pieces.{end_of, ended}
+use Rattle.text.proofs.Lines.{line_next, line_end, record_next, records_next, records_end, ended_added, listing_added, refused_added, tally_added, tally_none}
+use Rattle.text.proofs.Told.{room_for, text_listed, text_refused}
 use Rattle.text.proofs.listed.Goals as goal
 
 pub returns : goal.returns
-returns c =
-    let a = c.args in
-    listing_wrote a.room.now a.many c.records-a.ensures c.raw-b.ensures c.counts.ensures
+returns c = listing_added c.args.room.now c.args.many c.records.ensures c.raw.ensures c.counts.ensures
