@@ -23,7 +23,7 @@ use Rattle.tree.proofs.FirstChild.{child_some, child_none}
 use Rattle.answer.proofs.Flat.{past, over, split}
 use Rattle.answer.proofs.Bits.{and_false}
 use Rattle.answer.proofs.ByRole.{kind_there, kind_absent, head_there}
-use Rattle.dubious.specs.Scan.{is_key, before, seen, doubled, clashes}
+use Rattle.dubious.specs.Scan.{is_key, inside, before, seen, doubled, clashes, clash_recs, dict_recs, idle_recs}
 
 -- ---- keys of siblings
 
@@ -144,7 +144,7 @@ abbrev pub from_key : List ℕ → List ℕ → ℕ → ℕ → ℕ → List Rec
 from_key ns t i j e = doubles (like_by ns) (seen (forest_of t i j)) (keys (forest_of t j e))
 
 pub dict_step : (ns : List ℕ) {t : List ℕ} {i j e : ℕ} → Part t i j → Part t j e → i ≤ j → j < e
-    → from_key ns t i j e ≡ listed (is_key (node_head t j)) (clashes ns t i j) [] ++ from_key ns t i (j + size_at t j) e
+    → from_key ns t i j e ≡ clash_recs ns t i j ++ from_key ns t i (j + size_at t j) e
 unfolding before node_head
 dict_step ns {t} {i} {j} {e} p q a lt =
     rw (keys_over q lt, keys_onward p q a lt, before_append) (go (is_key (node_head t j)))
@@ -165,36 +165,29 @@ dict_start ns t i e = rw (keys_past t i i (omega arith))
 -- ---- 16 and 17: what a node gives
 
 module _ (ns t : List ℕ) (i j : ℕ) where
-  abbrev pub clash_recs : List Rec
-  clash_recs = listed (is_key (node_head t j)) (clashes ns t i j) []
-
-  pub clash_no : false ≡ is_key (node_head t j) → clash_recs ≡ []
+  pub clash_no : false ≡ is_key (node_head t j) → clash_recs ns t i j ≡ []
   clash_no b = rw (sym b)
 
-  pub clash_key : (old : Option ℕ) → true ≡ is_key (node_head t j) → clashes ns t i j ≡ doubled ns t old j → clash_recs ≡ doubled ns t old j
+  pub clash_key : (old : Option ℕ) → true ≡ is_key (node_head t j) → clashes ns t i j ≡ doubled ns t old j → clash_recs ns t i j ≡ doubled ns t old j
   clash_key old b e = rw (sym b, append-nil) e
 
-pub dict_no : (ns t : List ℕ) (i e : ℕ) → (kind_at t i ≡ 29 → ⊥) → dict_at (like_by ns) (node_head t i) (forest_of t (i + 1) e) ≡ []
+pub dict_no : (ns t : List ℕ) (i : ℕ) → (kind_at t i ≡ 29 → ⊥) → dict_recs ns t i ≡ []
 unfolding node_head
-dict_no ns t i e h = rw (ne_eqb 29 (kind_at t i) (λ z. h (sym z)))
+dict_no ns t i h = rw (ne_eqb 29 (kind_at t i) (λ z. h (sym z)))
 
-pub dict_yes : (ns t : List ℕ) (i e : ℕ) → kind_at t i ≡ 29
-    → dict_at (like_by ns) (node_head t i) (forest_of t (i + 1) e) ≡ doubles (like_by ns) [] (keys (forest_of t (i + 1) e))
+pub dict_yes : (ns t : List ℕ) (i : ℕ) → kind_at t i ≡ 29 → dict_recs ns t i ≡ doubles (like_by ns) [] (keys (inside t i))
 unfolding node_head
-dict_yes ns t i e k = rw (k, append-nil)
+dict_yes ns t i k = rw (k, append-nil)
 
 module _ {t : List ℕ} {i : ℕ} (w : Subtree t i) where
   below : Part t (i + 1) (i + size_at t i)
   below = kids w.part (omega (arith, w.some))
 
-  abbrev pub idle_recs : List Rec
-  idle_recs = idle_at (node_head t i) (forest_of t (i + 1) (i + size_at t i))
-
-  pub idle_no : (kind_at t i ≡ 5 → ⊥) → idle_recs ≡ []
+  pub idle_no : (kind_at t i ≡ 5 → ⊥) → idle_recs t i ≡ []
   unfolding node_head
   idle_no h = rw (ne_eqb 5 (kind_at t i) (λ z. h (sym z)))
 
-  pub idle_absent : ◌≡◌ {A = Option ℕ} None (first_child t 4 (i + 1) (i + size_at t i)) → idle_recs ≡ []
+  pub idle_absent : ◌≡◌ {A = Option ℕ} None (first_child t 4 (i + 1) (i + size_at t i)) → idle_recs t i ≡ []
   unfolding node_head
   idle_absent e =
       let z = kind_absent 4 below (child_none t 4 (i + 1) (i + size_at t i) e) in rw (z, and_false (eqb 5 (kind_at t i)))
@@ -207,11 +200,11 @@ module _ {t : List ℕ} {i : ℕ} (w : Subtree t i) where
     kind_found : kind_among 4 (forest_of t (i + 1) (i + size_at t i)) ≡ kind_at t j
     kind_found = rw found.0 (kind_there 4 below (omega (arith, w.some)) (rw found.0 at found.1))
 
-    pub idle_other : (kind_at t j ≡ 20 → ⊥) → idle_recs ≡ []
+    pub idle_other : (kind_at t j ≡ 20 → ⊥) → idle_recs t i ≡ []
     unfolding node_head
     idle_other k = rw (kind_found, ne_eqb 20 (kind_at t j) (λ y. k (sym y)), and_false (eqb 5 (kind_at t i)))
 
-    pub idle_here : kind_at t i ≡ 5 → kind_at t j ≡ 20 → idle_recs ≡ named_at 17 (node_head t j) ∷ []
+    pub idle_here : kind_at t i ≡ 5 → kind_at t j ≡ 20 → idle_recs t i ≡ named_at 17 (node_head t j) ∷ []
     unfolding node_head
     idle_here a k =
         let y : head_at 4 (forest_of t (i + 1) (i + size_at t i)) ≡ node_head t j

@@ -3,19 +3,17 @@
 // found, 1 KiB of it for as long as they are needed.
 #![tactic(auto)]
 
-ghost use Rattle.std.specs.Prelude.{◌≡◌, [], ◌+◌, ◌≤◌, ◌&&◌};
-ghost use Rattle.tree.specs.Bytes.{size_at, value_at};
+ghost use Rattle.std.specs.Prelude.{◌≡◌, [], ◌≤◌};
+ghost use Rattle.tree.specs.Bytes.{value_at};
 ghost use Rattle.tree.specs.Forest.{node_head, forest_of};
-ghost use Rattle.tree.specs.Keys.{alike};
 ghost use Rattle.tree.specs.code.Numbers.{like_by};
 ghost use Rattle.tree.specs.code.Part.{Part, Subtree};
 ghost use Rattle.tree.specs.Judge.{judged};
-ghost use Rattle.rules.specs.Record.{listed};
 ghost use Rattle.rules.specs.Visit.{each};
 ghost use Rattle.rules.specs.Dubious.{keys, doubles, dict_at, idle_at, dubious};
 ghost use Rattle.rules.specs.Calls.{dubious_call};
 ghost use Rattle.answer.specs.Page.{Added};
-ghost use Rattle.dubious.specs.Scan.{is_key, doubled, clashes};
+ghost use Rattle.dubious.specs.Scan.{is_key, equal_key, doubled, clashes, clash_recs, dict_recs, idle_recs};
 
 use answer::{Note, Pass, Place, Sheet, answered};
 use rules::{Answer, CODES, Code};
@@ -52,7 +50,7 @@ impl Walk<'_> {
 
     // Node m is a key equal to that of node j.
     fn is_equal_key(&self, m: usize, j: usize) -> bool
-        ensures { result ≡ (is_key (node_head self.now.t.now m) && alike (like_by self.now.numbers.now (value_at self.now.t.now m) (value_at self.now.t.now j))) }
+        ensures { result ≡ equal_key self.now.numbers.now self.now.t.now m j }
     {
         self.is_key(m) && self.likeness(m, j) != Likeness::Different
     }
@@ -77,7 +75,7 @@ impl Walk<'_> {
     // 16 at the previous equal key, and why it is equal, for the key at node j.
     fn clash(&self, i: usize, j: usize, sheet: &mut Sheet<'_>)
         requires { Part self.now.t.now i j }
-        ensures { Added sheet.old sheet.new (listed (is_key (node_head self.now.t.now j)) (clashes self.now.numbers.now self.now.t.now i j) []) }
+        ensures { Added sheet.old sheet.new (clash_recs self.now.numbers.now self.now.t.now i j) }
     {
         if self.is_key(j)
             && let Some(old) = self.previous(i, j)
@@ -110,7 +108,7 @@ impl Walk<'_> {
 
     fn expr(&self, i: usize, sheet: &mut Sheet<'_>)
         requires { Subtree self.now.t.now i }
-        ensures { Added sheet.old sheet.new (dict_at (like_by self.now.numbers.now) (node_head self.now.t.now i) (forest_of self.now.t.now (i + 1) (i + size_at self.now.t.now i))) }
+        ensures { Added sheet.old sheet.new (dict_recs self.now.numbers.now self.now.t.now i) }
     {
         if kind_at(self.t, i) == Kind::Dict as usize {
             self.dict(i + 1, i + size_at(self.t, i), sheet);
@@ -129,7 +127,7 @@ impl Walk<'_> {
 
     fn stmt(&self, i: usize, sheet: &mut Sheet<'_>)
         requires { Subtree self.now.t.now i }
-        ensures { Added sheet.old sheet.new (idle_at (node_head self.now.t.now i) (forest_of self.now.t.now (i + 1) (i + size_at self.now.t.now i))) }
+        ensures { Added sheet.old sheet.new (idle_recs self.now.t.now i) }
     {
         if kind_at(self.t, i) != Kind::Expression as usize {
             return;

@@ -1,12 +1,13 @@
 -- The last of some siblings: what the loop over them shows, and what a rule asks of it. Assumes nothing.
+use Rattle.std.specs.Prelude.{Option as Maybe, Some, None}
 use Prim.Native.Nat.{ℕ, ◌+◌, ◌≤◌, ◌<◌}
 use native.Mathlib.Omega.{arith}
 use mathlib.Core.Path.{◌≡◌, refl, sym, ap, ◌∙◌}
 use mathlib.Core.Bool.{Bool, true, false, cond, ◌||◌}
 use mathlib.Core.List.{List}
 use lib.Dec.{eqb}
-use borrow.Author.Tests.{lt-ltb, le-ltb}
-use Rattle.tree.specs.Bytes.{role_at, size_at, pick}
+use borrow.Author.Tests.{eq-eqb, ne_eqb}
+use Rattle.tree.specs.Bytes.{role_at, size_at}
 use Rattle.tree.specs.Forest.{Head, Forest, Forest.none as leaf, node, node_head, forest_of}
 use Rattle.tree.specs.code.Part.{Part}
 use Rattle.tree.proofs.Laws.{forest_none, forest_node}
@@ -25,45 +26,55 @@ later_leaf (node h k s) = refl
 
 -- ---- the loop: last is the last one before node j
 
-pub record Looked (t : List ℕ) (r i e last j : ℕ) : Type 0 where
+pub record Looked (t : List ℕ) (r i e : ℕ) (last : Maybe ℕ) (j : ℕ) : Type 0 where
   pub on : i ≤ j
-  pub from : last < e → i ≤ last
-  pub left : later_of (last_node r (forest_of t j e)) (node_if t last e) ≡ last_node r (forest_of t i e)
+  pub within : (k : ℕ) → last ≡ Some k → (i ≤ k) × (k < e)
+  pub left : later_of (last_node r (forest_of t j e)) (node_if t last) ≡ last_node r (forest_of t i e)
 
-pub looked_start : (t : List ℕ) (r i e : ℕ) → Looked t r i e e i
+pub looked_start : (t : List ℕ) (r i e : ℕ) → Looked t r i e None i
 unfolding node_if
 looked_start t r i e =
     record {
       on = omega arith;
-      from = λ h. absurd (omega arith);
-      left = rw (le-ltb e e (omega arith)) (later_leaf (last_node r (forest_of t i e)));
+      within = λ k h. cc;
+      left = later_leaf (last_node r (forest_of t i e));
     }
 
-pub looked_end : {t : List ℕ} {r i e last j : ℕ} → Looked t r i e last j → e ≤ j → Last t r i e last
+pub looked_end : {t : List ℕ} {r i e : ℕ} {last : Maybe ℕ} {j : ℕ} → Looked t r i e last j → e ≤ j → Last t r i e last
 unfolding last_node later_of
-looked_end {t} {r} {i} {e} {last} {j} l h = record { from = l.from; found = sym (rw (forest_none t j e h) at l.left) }
+looked_end {t} {r} {i} {e} {last} {j} l h = record { within = l.within; so = sym (rw (forest_none t j e h) at l.left) }
 
-pub looked_step : {t : List ℕ} {r i e last j : ℕ} → Looked t r i e last j → Part t j e → j < e → (new : ℕ)
-    → new ≡ pick (eqb r (role_at t j)) j last → Looked t r i e new (j + size_at t j)
-unfolding last_node later_of node_if node_head
-looked_step {t} {r} {i} {e} {last} {j} l p lt new q =
-    record {
-      on = omega (arith, l.on);
-      from = rw q (from_step (eqb r (role_at t j)));
-      left =
-          ap (later_of (last_node r (forest_of t (j + size_at t j) e))) (rw q (sym (here (eqb r (role_at t j)))))
-          ∙ sym (later_later (last_node r (forest_of t (j + size_at t j) e)) _ (node_if t last e))
-          ∙ ap (λ (f : Forest). later_of (last_node r f) (node_if t last e)) (sym (forest_node p lt))
-          ∙ l.left;
-    }
-  where
-    from_step : (b : Bool) → pick b j last < e → i ≤ pick b j last
-    from_step true h = l.on
-    from_step false h = l.from h
+module _ {t : List ℕ} {r i e : ℕ} {last : Maybe ℕ} {j : ℕ} (l : Looked t r i e last j) (p : Part t j e) (lt : j < e) where
+  -- node j alone, where it has the role
+  abbrev this : Forest
+  this = cond (eqb r (role_at t j)) (node (node_head t j) (forest_of t (j + 1) (j + size_at t j)) leaf) leaf
 
-    here : (b : Bool) → later_of (cond b (node (node_head t j) (forest_of t (j + 1) (j + size_at t j)) leaf) leaf) (node_if t last e) ≡ node_if t (pick b j last) e
-    here true = rw (lt-ltb j e lt)
-    here false = refl
+  over_one : (f : Forest) → later_of this (node_if t last) ≡ f
+      → later_of (last_node r (forest_of t (j + size_at t j) e)) f ≡ last_node r (forest_of t i e)
+  unfolding last_node later_of node_head
+  over_one f q =
+      ap (later_of (last_node r (forest_of t (j + size_at t j) e))) (sym q)
+      ∙ sym (later_later (last_node r (forest_of t (j + size_at t j) e)) this (node_if t last))
+      ∙ ap (λ (f : Forest). later_of (last_node r f) (node_if t last)) (sym (forest_node p lt))
+      ∙ l.left
+
+  pub looked_here : role_at t j ≡ r → Looked t r i e (Some j) (j + size_at t j)
+  unfolding node_if later_of
+  looked_here q =
+      record {
+        on = omega (arith, l.on);
+        within = λ k h. let z : j ≡ k = cc in (omega (arith, l.on), omega arith);
+        left = over_one _ (rw (eq-eqb r (role_at t j) (sym q)));
+      }
+
+  pub looked_past : (role_at t j ≡ r → ⊥) → Looked t r i e last (j + size_at t j)
+  unfolding later_of
+  looked_past q =
+      record {
+        on = omega (arith, l.on);
+        within = l.within;
+        left = over_one _ (rw (ne_eqb r (role_at t j) (λ z. q (sym z))));
+      }
 
 -- ---- a rule that takes the last of a role: A of its head and children, z where there is none
 
@@ -99,11 +110,11 @@ module _ {B : Type 0} (r : ℕ) (v : Forest → B) (A : Head → Forest → B) (
       go true (node a b c) = refl
       go false (node a b c) = refl
 
-  pub last_there : {t : List ℕ} {i e j : ℕ} → Last t r i e j → j < e
+  pub last_there : {t : List ℕ} {i e j : ℕ} → Last t r i e (Some j)
       → v (forest_of t i e) ≡ A (node_head t j) (forest_of t (j + 1) (j + size_at t j))
   unfolding node_if
-  last_there {t} {i} {e} {j} l lt = by_last (forest_of t i e) ∙ ap alone l.found ∙ rw (lt-ltb j e lt)
+  last_there {t} {i} {e} {j} l = by_last (forest_of t i e) ∙ ap alone l.so
 
-  pub last_absent : {t : List ℕ} {i e j : ℕ} → Last t r i e j → e ≤ j → v (forest_of t i e) ≡ z
+  pub last_absent : {t : List ℕ} {i e : ℕ} → Last t r i e None → v (forest_of t i e) ≡ z
   unfolding node_if
-  last_absent {t} {i} {e} {j} l h = by_last (forest_of t i e) ∙ ap alone l.found ∙ rw (le-ltb j e h)
+  last_absent {t} {i} {e} l = by_last (forest_of t i e) ∙ ap alone l.so

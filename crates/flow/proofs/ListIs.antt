@@ -5,7 +5,7 @@ use native.Mathlib.Omega.{arith}
 use native.Mathlib.Decide.{dec_lt}
 use mathlib.Core.Path.{◌≡◌, sym, ap, ◌∙◌}
 use mathlib.Core.Bool.{Bool}
-use mathlib.Core.List.{List, ◌++◌}
+use mathlib.Core.List.{List}
 use lib.Dec.{eqb}
 use lib.ListN.{length, get_or}
 use borrow.Author.Tests.{lt-ltb, le-ltb}
@@ -19,21 +19,12 @@ use Rattle.tree.proofs.Fields.{part_small}
 use Rattle.tree.proofs.TableLaws.{at_past}
 use Rattle.tree.proofs.ValidTable.{spells_number}
 use Rattle.tree.proofs.Whole.{sound, whole_part}
-use Rattle.rules.specs.Record.{Rec}
 use Rattle.rules.specs.Order.{fail_name}
 use Rattle.rules.specs.Flow.{flow, none_name, flow_list}
 use Rattle.rules.proofs.Few.{flow_list_few}
-use Rattle.answer.specs.Page.{Page, writes}
-use Rattle.answer.proofs.Flat.{walked_both}
 use Rattle.answer.proofs.Whole.{few_nodes}
 use Rattle.flow.specs.Walks.{is_text}
 use Rattle.flow.proofs.SameTests.{flow_same}
-
--- five walks in order
-pub walked_five : (p : Page) (a b c d e : List Rec) {p₁ p₂ p₃ p₄ p₅ : Page} → p₁ ≡ writes p a → p₂ ≡ writes p₁ b → p₃ ≡ writes p₂ c → p₄ ≡ writes p₃ d
-    → p₅ ≡ writes p₄ e → p₅ ≡ writes p (a ++ (b ++ (c ++ (d ++ e))))
-walked_five p a b c d e {p₁} {p₂} {p₃} u v w x y =
-    walked_both p a (b ++ (c ++ (d ++ e))) u (walked_both p₁ b (c ++ (d ++ e)) v (walked_both p₂ c (d ++ e) w (walked_both p₃ d e x y)))
 
 module _ (t : List ℕ) (f : Facts) (valid : judged t ≡ Ok f) where
   pub list_few : length (flow_list t) ≤ 18446744073709551615

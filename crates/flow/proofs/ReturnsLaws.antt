@@ -1,4 +1,5 @@
 -- What each step and return of the functions of returns shows. Assumes nothing.
+use Rattle.std.specs.Prelude.{Option as Maybe, Some, None, is_some}
 use Prim.Native.Nat.{ℕ, ◌+◌, ◌≤◌, ◌<◌}
 use native.Mathlib.Omega.{arith}
 use native.Mathlib.Decide.{dec_lt, ℕ_discrete}
@@ -11,16 +12,15 @@ use borrow.Author.Tests.{lt-ltb, le-ltb, eq-eqb, ne_eqb}
 use Rattle.tree.specs.Bytes.{kind_at, role_at, size_at, value_at, pick}
 use Rattle.tree.specs.Forest.{Spot, Head, Forest, Forest.none as leaf, node, node_spot, node_head, forest_of}
 use Rattle.tree.specs.code.Part.{Part, Subtree}
-use Rattle.tree.specs.code.Find.{child_of}
+use Rattle.tree.specs.code.Find.{child_of, first_child}
 use Rattle.tree.specs.Children.{many}
 use Rattle.tree.proofs.Laws.{later, sized, ended, kids, first, rest, forest_node, forest_one}
+use Rattle.tree.proofs.FirstChild.{child_some, child_none}
 use Rattle.tree.proofs.Find.{seek, child_end, child_here, child_next, child_ge, many_here, many_next}
 use Rattle.rules.specs.Record.{Rec, listed}
 use Rattle.rules.specs.Visit.{look, has, spot_at}
 use Rattle.rules.specs.Flow.{Return, Which, everything, the_body, returns_part, returns, first_valued, type_reason, reason, ends, missing, missing_expression, bare_recs, check_for, check, returns_walk}
-use Rattle.answer.specs.Page.{Page, write, writes}
-use Rattle.answer.proofs.Laws.{writes_none, writes_one}
-use Rattle.answer.proofs.Flat.{past, over, split, next, walked_both}
+use Rattle.answer.proofs.Flat.{past, over, split, next}
 use Rattle.answer.proofs.ByRole.{there, absent, place_there}
 use Rattle.flow.specs.Returns.{Shaped, Tidy, TidyAt, DefAt, head_if, own}
 
@@ -51,8 +51,12 @@ def_shaped {t} {i} d = d.at.tidy.defs i (omega arith) (omega (arith, d.at.some))
 
 -- ---- the first child of a role
 
-pub has_child : (r : ℕ) {t : List ℕ} {i e : ℕ} → Part t i e → i ≤ e → ltb (child_of t r i e) e ≡ has r (forest_of t i e)
-has_child r {t} {i} {e} p h = go (dec_lt (child_of t r i e) e)
+some_so : (b : Bool) (j : ℕ) → is_some (elim b as (λ _. Maybe ℕ) [ true ↦ Some j | false ↦ None ]) ≡ b
+some_so true j = refl
+some_so false j = refl
+
+pub has_child : (r : ℕ) {t : List ℕ} {i e : ℕ} → Part t i e → i ≤ e → is_some (first_child t r i e) ≡ has r (forest_of t i e)
+has_child r {t} {i} {e} p h = some_so (ltb (child_of t r i e) e) (child_of t r i e) ∙ go (dec_lt (child_of t r i e) e)
   where
     go : Dec (child_of t r i e < e) → ltb (child_of t r i e) e ≡ has r (forest_of t i e)
     go (yes l) = lt-ltb _ e l ∙ sym (there r (has r) (λ g k. true) false refl (λ g k s b. rw b) (λ g k s b. rw b) p h l)
@@ -62,29 +66,33 @@ module _ (is_none : ℕ → Bool) {t : List ℕ} {i e : ℕ} (p : Part t i e) (h
   abbrev of_type : Head → Forest → Option Head
   of_type g k = cond (eqb 20 g.kind && is_none g.spot.value) none (some g)
 
-  type_there : child_of t 3 i e < e
-      → type_reason is_none (forest_of t i e)
-      ≡ cond (eqb 20 (kind_at t (child_of t 3 i e)) && is_none (value_at t (child_of t 3 i e))) none (some (node_head t (child_of t 3 i e)))
-  unfolding node_head node_spot
-  type_there lt = there 3 (type_reason is_none) of_type none refl (λ g k s b. rw (b, type_reason)) (λ g k s b. rw (b, type_reason)) p h lt
+  pub type_absent : None ≡ first_child t 3 i e → head_if t None ≡ type_reason is_none (forest_of t i e)
+  unfolding head_if
+  type_absent q =
+      sym (absent 3 (type_reason is_none) of_type none refl (λ g k s b. rw (b, type_reason)) (λ g k s b. rw (b, type_reason)) p (child_none t 3 i e q))
 
-  module _ (j : ℕ) (ej : j ≡ child_of t 3 i e) where
-    pub type_absent : e ≤ j → head_if t 65536 ≡ type_reason is_none (forest_of t i e)
-    unfolding head_if
-    type_absent l =
-        sym (absent 3 (type_reason is_none) of_type none refl (λ g k s b. rw (b, type_reason)) (λ g k s b. rw (b, type_reason)) p (rw ej at l))
+  module _ {j : ℕ} (q : Some j ≡ first_child t 3 i e) where
+    type_there : type_reason is_none (forest_of t i e) ≡ cond (eqb 20 (kind_at t j) && is_none (value_at t j)) none (some (node_head t j))
+    unfolding node_head node_spot
+    type_there =
+        let z = child_some t 3 i e j q in
+        rw z.0 (there 3 (type_reason is_none) of_type none refl (λ g k s b. rw (b, type_reason)) (λ g k s b. rw (b, type_reason)) p h (rw z.0 at z.1))
 
-    pub type_none : j < e → kind_at t j ≡ 20 → is_none (value_at t j) ≡ true → head_if t 65536 ≡ type_reason is_none (forest_of t i e)
+    pub type_none : kind_at t j ≡ 20 → is_none (value_at t j) ≡ true → head_if t None ≡ type_reason is_none (forest_of t i e)
     unfolding head_if
-    type_none l a b = sym (type_there (rw ej at l) ∙ rw (← ej, a, b))
+    type_none a b = sym (type_there ∙ rw (a, b))
 
-    pub type_other : j < e → kind_at t j ≡ 20 → is_none (value_at t j) ≡ false → head_if t j ≡ type_reason is_none (forest_of t i e)
+    pub type_other : is_none (value_at t j) ≡ false → head_if t (Some j) ≡ type_reason is_none (forest_of t i e)
     unfolding head_if
-    type_other l a b = rw (lt-ltb j 65536 (omega (arith, p.few))) (sym (type_there (rw ej at l) ∙ rw (← ej, a, b)))
+    type_other b = sym (type_there ∙ rw b (never (eqb 20 (kind_at t j))))
+      where
+        never : (x : Bool) → cond (x && false) none (some (node_head t j)) ≡ some (node_head t j)
+        never true = refl
+        never false = refl
 
-    pub type_more : j < e → (kind_at t j ≡ 20 → ⊥) → head_if t j ≡ type_reason is_none (forest_of t i e)
+    pub type_more : (kind_at t j ≡ 20 → ⊥) → head_if t (Some j) ≡ type_reason is_none (forest_of t i e)
     unfolding head_if
-    type_more l a = rw (lt-ltb j 65536 (omega (arith, p.few))) (sym (type_there (rw ej at l) ∙ rw (← ej, ne_eqb 20 (kind_at t j) (λ z. a (sym z)))))
+    type_more a = sym (type_there ∙ rw (ne_eqb 20 (kind_at t j) (λ z. a (sym z))))
 
 -- ---- the returns, by node numbers
 
@@ -154,11 +162,10 @@ first_own s false false on = refl
 
 module _ {t : List ℕ} {j e : ℕ} (w : Tidy t j e) (lt : j < e) where
   pub valued_here : (eqb 4 (kind_at t j) && has 4 (forest_of t (j + 1) (j + size_at t j))) ≡ true
-      → head_if t j ≡ first_valued (returns everything (forest_of t j e))
+      → head_if t (Some j) ≡ first_valued (returns everything (forest_of t j e))
   unfolding head_if node_head own
   valued_here q =
-      rw (lt-ltb j 65536 (omega (arith, w.part.few)))
-      (sym (ap first_valued (returns_next w lt _ refl) ∙ first_own (node_head t j) (eqb 4 (kind_at t j)) (has 4 (forest_of t (j + 1) (j + size_at t j))) _ ∙ rw q))
+      sym (ap first_valued (returns_next w lt _ refl) ∙ first_own (node_head t j) (eqb 4 (kind_at t j)) (has 4 (forest_of t (j + 1) (j + size_at t j))) _ ∙ rw q)
 
   pub valued_next : (m : ℕ) → m ≡ j + pick (eqb 12 (kind_at t j)) (size_at t j) 1 → (eqb 4 (kind_at t j) && has 4 (forest_of t (j + 1) (j + size_at t j))) ≡ false
       → first_valued (returns everything (forest_of t m e)) ≡ first_valued (returns everything (forest_of t j e))
@@ -166,7 +173,7 @@ module _ {t : List ℕ} {j e : ℕ} (w : Tidy t j e) (lt : j < e) where
   valued_next m a q =
       sym (ap first_valued (returns_next w lt m a) ∙ first_own (node_head t j) (eqb 4 (kind_at t j)) (has 4 (forest_of t (j + 1) (j + size_at t j))) _ ∙ rw q)
 
-pub valued_end : (t : List ℕ) (j e : ℕ) → e ≤ j → head_if t 65536 ≡ first_valued (returns everything (forest_of t j e))
+pub valued_end : (t : List ℕ) (j e : ℕ) → e ≤ j → head_if t None ≡ first_valued (returns everything (forest_of t j e))
 unfolding head_if
 valued_end t j e h = rw (returns_past t j e h)
 
@@ -207,29 +214,43 @@ body_one {t} p m b q lt = rw q (seek 1 Q t nothing here next p m (rw q at lt))
 
 -- ---- why a def wants a value
 
-module _ (is_none : ℕ → Bool) {t : List ℕ} {i e : ℕ} (d : DefAt t i) (j : ℕ) (typed : head_if t j ≡ type_reason is_none (forest_of t (i + 1) e)) where
-  pub reason_type : e ≡ i + size_at t i → j < 65536 → head_if t j ≡ reason is_none (forest_of t (i + 1) (i + size_at t i))
-  unfolding head_if
-  reason_type ee l =
-      let z : type_reason is_none (forest_of t (i + 1) (i + size_at t i)) ≡ some (node_head t j) = rw (lt-ltb j 65536 l, ee) at (sym typed) in
-      rw (z, lt-ltb j 65536 l)
+module _ {t : List ℕ} {i : ℕ} (d : DefAt t i) where
+  abbrev End : ℕ
+  End = i + size_at t i
 
-  pub reason_return : e ≡ i + size_at t i → 65536 ≤ j → (b x : ℕ) → b ≡ child_of t 1 (i + 1) e
-      → head_if t x ≡ first_valued (returns everything (forest_of t b (b + size_at t b))) → head_if t x ≡ reason is_none (forest_of t (i + 1) (i + size_at t i))
-  unfolding head_if
-  reason_return ee l b x eb u =
-      let z : type_reason is_none (forest_of t (i + 1) (i + size_at t i)) ≡ none = rw (le-ltb j 65536 l, ee) at (sym typed) in
-      let s = def_shaped d in
-      let y : b ≡ child_of t 1 (i + 1) (i + size_at t i) = rw ee at eb in
-      rw z (u ∙ ap first_valued (sym (body_one (kids d.at.tidy.part (omega (arith, d.at.some))) s.one b y (rw y s.body))))
+  pub def_kids : Part t (i + 1) End
+  def_kids = kids d.at.tidy.part (omega (arith, d.at.some))
 
--- the body is a part of the def
-pub body_tidy : {t : List ℕ} {i : ℕ} → DefAt t i → (b : ℕ) → b ≡ child_of t 1 (i + 1) (i + size_at t i) → Tidy t b (b + size_at t b)
-body_tidy {t} {i} d b q =
-    let lt : b < i + size_at t i = rw q (def_shaped d).body in
-    let w = tidy_kids d.at in
-    let ge : i + 1 ≤ b = rw q (child_ge w.part 1 (omega (arith, d.at.some))) in
-    (tidy_first (tidy_later w ge) lt).tidy
+  -- a def has a name and a body
+  pub no_name : None ≡ first_child t 6 (i + 1) End → ⊥
+  no_name q = omega (arith, (def_shaped d).name, child_none t 6 (i + 1) End q)
+
+  pub no_body : None ≡ first_child t 1 (i + 1) End → ⊥
+  no_body q = omega (arith, (def_shaped d).body, child_none t 1 (i + 1) End q)
+
+  module _ {b : ℕ} (q : Some b ≡ first_child t 1 (i + 1) End) where
+    -- the body is a part of the def
+    pub body_tidy : Tidy t b (b + size_at t b)
+    body_tidy =
+        let z = child_some t 1 (i + 1) End b q in
+        let w = tidy_kids d.at in
+        let ge : i + 1 ≤ b = rw z.0 (child_ge w.part 1 (omega (arith, d.at.some))) in
+        (tidy_first (tidy_later w ge) z.1).tidy
+
+    pub body_returns : returns the_body (forest_of t (i + 1) End) ≡ returns everything (forest_of t b (b + size_at t b))
+    body_returns =
+        let z = child_some t 1 (i + 1) End b q in
+        body_one def_kids (def_shaped d).one b z.0 z.1
+
+  module _ (is_none : ℕ → Bool) where
+    pub reason_type : (j : ℕ) → head_if t (Some j) ≡ type_reason is_none (forest_of t (i + 1) End) → head_if t (Some j) ≡ reason is_none (forest_of t (i + 1) End)
+    unfolding head_if
+    reason_type j typed = rw (sym typed)
+
+    pub reason_return : head_if t None ≡ type_reason is_none (forest_of t (i + 1) End) → {b : ℕ} → Some b ≡ first_child t 1 (i + 1) End
+        → (x : Maybe ℕ) → head_if t x ≡ first_valued (returns everything (forest_of t b (b + size_at t b))) → head_if t x ≡ reason is_none (forest_of t (i + 1) End)
+    unfolding head_if
+    reason_return typed q x u = rw (sym typed) (u ∙ ap first_valued (sym (body_returns q)))
 
 -- ---- 8 and 7
 
@@ -253,71 +274,60 @@ bare_next h name why {t} {j} {e} w lt m q =
 pub bare_past : (h : Head) (name : Spot) (why : Head) (t : List ℕ) (j e : ℕ) → e ≤ j → bare_recs h name why (returns everything (forest_of t j e)) ≡ []
 bare_past h name why t j e l = rw (returns_past t j e l)
 
-module _ (t : List ℕ) (j : ℕ) (h : Head) (name : Spot) (why : Head) (p : Page) where
+module _ (t : List ℕ) (j : ℕ) (h : Head) (name : Spot) (why : Head) where
   abbrev pub bare_one : List Rec
   bare_one = bare_recs h name why (own (node_head t j) (forest_of t (j + 1) (j + size_at t j)))
 
-  pub bare_no : (kind_at t j ≡ 4 → ⊥) → p ≡ writes p bare_one
+  pub bare_no : (kind_at t j ≡ 4 → ⊥) → bare_one ≡ []
   unfolding node_head own
-  bare_no q = rw (ne_eqb 4 (kind_at t j) (λ z. q (sym z))) (sym (writes_none p))
+  bare_no q = rw (ne_eqb 4 (kind_at t j) (λ z. q (sym z)))
 
-  pub bare_valued : kind_at t j ≡ 4 → has 4 (forest_of t (j + 1) (j + size_at t j)) ≡ true → p ≡ writes p bare_one
+  pub bare_valued : has 4 (forest_of t (j + 1) (j + size_at t j)) ≡ true → bare_one ≡ []
+  unfolding own
+  bare_valued v = rw v (never (eqb 4 (node_head t j).kind))
+    where
+      never : (x : Bool) → bare_recs h name why (listed x (record { head = node_head t j; valued = true } ∷ []) []) ≡ []
+      never true = refl
+      never false = refl
+
+  pub bare_put : kind_at t j ≡ 4 → has 4 (forest_of t (j + 1) (j + size_at t j)) ≡ false → bare_one ≡ missing_expression h name why (node_head t j) ∷ []
   unfolding node_head own
-  bare_valued q v = rw (q, v) (sym (writes_none p))
-
-  pub bare_put : kind_at t j ≡ 4 → has 4 (forest_of t (j + 1) (j + size_at t j)) ≡ false → {q : Page}
-      → q ≡ write p (missing_expression h name why (node_head t j)) → q ≡ writes p bare_one
-  unfolding node_head own
-  bare_put q v w = rw (q, v) (w ∙ sym (writes_one p _))
-
-module _ (b : Bool) (r : Rec) (p : Page) where
-  pub unless_so : b ≡ true → p ≡ writes p (listed (not b) (r ∷ []) [])
-  unless_so q = rw q (sym (writes_none p))
-
-  pub unless_put : b ≡ false → {q : Page} → q ≡ write p r → q ≡ writes p (listed (not b) (r ∷ []) [])
-  unless_put q w = rw q (w ∙ sym (writes_one p r))
+  bare_put q v = rw (q, v)
 
 listed_before : (b : Bool) (xs ys : List Rec) → listed b xs ys ≡ listed b xs [] ++ ys
 listed_before true xs ys = rw append-nil
 listed_before false xs ys = refl
 
-module _ (is_fail is_none : ℕ → Bool) {t : List ℕ} {i : ℕ} (d : DefAt t i) (why : ℕ) (p : Page) where
-  abbrev pub def_recs : List Rec
-  def_recs = check_for is_fail is_none (node_head t i) (forest_of t (i + 1) (i + size_at t i)) (head_if t why)
-
-  pub for_none : 65536 ≤ why → p ≡ writes p def_recs
-  unfolding head_if
-  for_none h = rw (le-ltb why 65536 h) (sym (writes_none p))
-
-  pub for_both : why < 65536 → (name b : ℕ) → name ≡ child_of t 6 (i + 1) (i + size_at t i) → b ≡ child_of t 1 (i + 1) (i + size_at t i) → {q r : Page}
-      → q ≡ writes p (listed (not (ends is_fail 1 (forest_of t (i + 1) (i + size_at t i)))) (missing (node_head t i) (node_spot t name) (node_head t why) ∷ []) [])
-      → r ≡ writes q (bare_recs (node_head t i) (node_spot t name) (node_head t why) (returns everything (forest_of t b (b + size_at t b))))
-      → r ≡ writes p def_recs
-  unfolding head_if
-  for_both h name b en eb u v =
-      let s = def_shaped d in
-      let w = kids d.at.tidy.part (omega (arith, d.at.some)) in
-      let z : spot_at 6 (forest_of t (i + 1) (i + size_at t i)) ≡ node_spot t name = place_there 6 w (omega (arith, d.at.some)) s.name ∙ ap (node_spot t) (sym en) in
-      let y = body_one w s.one b eb (rw eb s.body) in
-      walked_both p _ _ u v
-      ∙ ap (writes p) (rw (lt-ltb why 65536 h, z, y) (sym (listed_before (not (ends is_fail 1 (forest_of t (i + 1) (i + size_at t i)))) _ _)))
+-- what is listed of a def that wants a value
+pub for_both : (is_fail is_none : ℕ → Bool) {t : List ℕ} {i : ℕ} → DefAt t i → (why : Head) {name b : ℕ}
+    → Some name ≡ first_child t 6 (i + 1) (i + size_at t i) → Some b ≡ first_child t 1 (i + 1) (i + size_at t i)
+    → check_for is_fail is_none (node_head t i) (forest_of t (i + 1) (i + size_at t i)) (some why)
+    ≡ listed (not (ends is_fail 1 (forest_of t (i + 1) (i + size_at t i)))) (missing (node_head t i) (node_spot t name) why ∷ []) []
+    ++ bare_recs (node_head t i) (node_spot t name) why (returns everything (forest_of t b (b + size_at t b)))
+for_both is_fail is_none {t} {i} d why {name} {b} n q =
+    let k = child_some t 6 (i + 1) (i + size_at t i) name n in
+    let z : spot_at 6 (forest_of t (i + 1) (i + size_at t i)) ≡ node_spot t name = place_there 6 (def_kids d) (omega (arith, d.at.some)) (def_shaped d).name ∙ ap (node_spot t) (sym k.0) in
+    rw (z, body_returns d q) (listed_before (not (ends is_fail 1 (forest_of t (i + 1) (i + size_at t i)))) _ _)
 
 -- ---- the walk
 
 module _ (is_fail is_none : ℕ → Bool) where
-  module _ (t : List ℕ) (i : ℕ) (p : Page) where
+  module _ (t : List ℕ) (i : ℕ) where
     abbrev pub stmt_recs : List Rec
     stmt_recs = check is_fail is_none (node_head t i).kind (node_head t i) (forest_of t (i + 1) (i + size_at t i))
 
-    pub stmt_no : (kind_at t i ≡ 12 → ⊥) → p ≡ writes p stmt_recs
+    pub stmt_no : (kind_at t i ≡ 12 → ⊥) → stmt_recs ≡ []
     unfolding node_head
-    stmt_no q =
-        sym (writes_none p) ∙ ap (writes p) (sym (rw (ne_eqb (kind_at t i) 12 q, look)))
+    stmt_no q = rw (ne_eqb (kind_at t i) 12 q, look)
 
-    pub stmt_def : kind_at t i ≡ 12 → (why : ℕ) → head_if t why ≡ reason is_none (forest_of t (i + 1) (i + size_at t i)) → {q : Page}
-        → q ≡ writes p (check_for is_fail is_none (node_head t i) (forest_of t (i + 1) (i + size_at t i)) (head_if t why)) → q ≡ writes p stmt_recs
-    unfolding node_head
-    stmt_def k why u w = rw k (rw k at (rw u at w))
+    pub stmt_none : kind_at t i ≡ 12 → head_if t None ≡ reason is_none (forest_of t (i + 1) (i + size_at t i)) → stmt_recs ≡ []
+    unfolding node_head head_if
+    stmt_none k u = rw k (rw (sym u))
+
+    pub stmt_def : kind_at t i ≡ 12 → (why : ℕ) → head_if t (Some why) ≡ reason is_none (forest_of t (i + 1) (i + size_at t i))
+        → stmt_recs ≡ check_for is_fail is_none (node_head t i) (forest_of t (i + 1) (i + size_at t i)) (some (node_head t why))
+    unfolding node_head head_if
+    stmt_def k why u = rw k (rw (sym u))
 
   part_recs : Head → Forest → List Rec
   part_recs h k = check is_fail is_none h.kind h k ++ returns_walk is_fail is_none k

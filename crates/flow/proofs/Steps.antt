@@ -1,30 +1,30 @@
 -- What each step and return of the walks shows. Assumes nothing.
+use Rattle.std.specs.Prelude.{Some}
 use Prim.Native.Nat.{ℕ, ◌+◌, ◌≤◌, ◌<◌}
 use native.Mathlib.Omega.{arith}
 use native.Mathlib.Decide.{ℕ_discrete, dec_lt}
 use mathlib.Core.Path.{◌≡◌, refl, sym, ap, ◌∙◌}
 use mathlib.Core.List.{List, [], ◌∷◌, ◌++◌, append_assoc}
-use mathlib.Core.Bool.{Bool, true, false, cond, ◌||◌}
-use lib.Dec.{eqb, ltb}
-use borrow.Author.Tests.{ne_eqb, lt-ltb, le-ltb, eqb-true}
+use mathlib.Core.Bool.{Bool, true, false, cond, ◌&&◌, ◌||◌, not}
+use lib.Dec.{eqb, ltb, leb}
+use Rattle.std.proofs.lemmas.Bool.{false≢true, ne_eqb, lt-ltb, le-ltb, leb-true, eqb-true, and_parts}
 use Rattle.tree.specs.Bytes.{kind_at, size_at, value_at, pick}
 use Rattle.tree.specs.Forest.{Head, Forest, none, node, node_spot, node_head, forest_of}
 use Rattle.tree.specs.code.Part.{Part, Subtree}
-use Rattle.tree.specs.code.Find.{child_of}
+use Rattle.tree.specs.code.Find.{child_of, first_child}
+use Rattle.tree.proofs.FirstChild.{child_some}
 use Rattle.tree.proofs.Laws.{sized, ended, first, kids, rest, forest_none, forest_node}
-use Rattle.rules.specs.Record.{Rec, plainly}
+use Rattle.rules.specs.Record.{Rec, plainly, listed}
 use Rattle.rules.specs.Visit.{look}
 use Rattle.rules.specs.Flow.{Effect, some_effect, none_effect, by_children, effects, effect, effect_part, effect_walk, Loads, loads_part, loads, string_stated}
 use Rattle.rules.proofs.Look.{look_all}
-use Rattle.answer.specs.Page.{Page, write, writes}
-use Rattle.answer.proofs.Laws.{writes_none, writes_one}
 use Rattle.answer.proofs.Flat.{past, over, split}
 use Rattle.answer.proofs.ByRole.{head_there}
 use Rattle.tree.specs.Children.{slot_of}
 use Rattle.tree.proofs.Roles.{kid_there}
 use Rattle.tree.proofs.Whole.{sound}
 use Rattle.flow.specs.Returns.{Checked}
-use Rattle.flow.specs.Walks.{Stated, is_text, acts_by, acting, onto, inside, idle_at, past_of, into_of, load_at}
+use Rattle.flow.specs.Walks.{Stated, is_text, of_children, acts_by, acting, onto, inside, idle_at, past_of, into_of, load_at}
 use Rattle.flow.proofs.Beside.{beside, below_split}
 use Rattle.flow.proofs.Forms.{effect_other, loads_other, loads_end, loads_load, loads_silent}
 
@@ -34,17 +34,10 @@ whole_at p lt = record { part = first p lt; some = sized p lt }
 pub below : {t : List ℕ} {i : ℕ} → Subtree t i → Part t (i + 1) (i + size_at t i)
 below w = kids w.part (omega (arith, w.some))
 
--- nothing is written
-pub wrote_none : (p : Page) {rs : List Rec} → rs ≡ [] → p ≡ writes p rs
-wrote_none p e = sym (writes_none p) ∙ ap (writes p) (sym e)
-
-pub wrote_one : (p : Page) (r : Rec) {rs : List Rec} {q : Page} → q ≡ write p r → rs ≡ r ∷ [] → q ≡ writes p rs
-wrote_one p r e f = e ∙ sym (writes_one p r) ∙ ap (writes p) (sym f)
-
 -- ---- whether an expression has effect
 
 false_true : {A : Type 0} → false ≡ true → A
-false_true e = let z : ◌≡◌ {A = ℕ} 0 1 = ap (λ (b : Bool). cond b 1 0) e in absurd (omega arith)
+false_true e = absurd (false≢true e)
 
 not_none : {A : Type 0} → some_effect ≡ none_effect → A
 not_none u = let w : ◌≡◌ {A = ℕ} 0 1 = cc in absurd (omega arith)
@@ -62,52 +55,41 @@ by_them k a b = go (ℕ_discrete k 27) (ℕ_discrete k 28) (ℕ_discrete k 29)
     go (no d) (no f) (yes e) = rw e
     go (no d) (no f) (no g) = let e : k ≡ 30 = omega (arith, d, f, g) in rw e
 
-above : (k : ℕ) → 30 < k → look k effects some_effect ≡ some_effect
-above k h =
-    look_all (λ m x. 30 < m → x ≡ some_effect) k effects some_effect
-    (λ a. absurd (omega arith), (λ a. absurd (omega arith), (λ a. absurd (omega arith), (λ a. absurd (omega arith), (λ a. absurd (omega arith), (λ a. absurd (omega arith), tt))))))
-    (λ a. refl) h
+-- what is none of these, and not ellipsis or lambda
+by_itself : (k : ℕ) → (k ≡ 22 → ⊥) → (k ≡ 24 → ⊥) → of_children k ≡ false → look k effects some_effect ≡ some_effect
+by_itself k a b h =
+    look_all (λ m x. (m ≡ 22 → ⊥) → (m ≡ 24 → ⊥) → of_children m ≡ false → x ≡ some_effect) k effects some_effect
+    (λ a b c. absurd (a refl), (λ a b c. absurd (b refl), (λ a b c. false_true (sym c), (λ a b c. false_true (sym c), (λ a b c. false_true (sym c), (λ a b c. false_true (sym c), tt))))))
+    (λ a b c. refl) a b h
 
-pub acts_string : (strings : List Bool) (t : List ℕ) (j : ℕ) {b : Bool} → kind_at t j ≡ 21 → b ≡ is_text strings (value_at t j) → b ≡ acting strings (node_head t j)
-unfolding node_head node_spot
-acts_string strings t j k e = rw k e
+them : (k : ℕ) → of_children k ≡ true → look k effects some_effect ≡ by_children
+them k h = let z = and_parts (leb 27 k) (leb k 30) h in by_them k (leb-true 27 k z.0) (leb-true k 30 z.1)
 
-pub acts_ellipsis : (strings : List Bool) (t : List ℕ) (j : ℕ) → kind_at t j ≡ 22 → false ≡ acting strings (node_head t j)
-unfolding node_head
-acts_ellipsis strings t j k = rw k
+module _ (strings : List Bool) (t : List ℕ) (j : ℕ) where
+  pub acts_string : {b : Bool} → kind_at t j ≡ 21 → b ≡ is_text strings (value_at t j) → b ≡ acting strings (node_head t j)
+  unfolding node_head node_spot
+  acts_string k e = rw k e
 
-pub acts_lambda : (strings : List Bool) (t : List ℕ) (j : ℕ) → kind_at t j ≡ 24 → false ≡ acting strings (node_head t j)
-unfolding node_head
-acts_lambda strings t j k = rw k
+  -- what is no literal
+  pub acts_other : (kind_at t j ≡ 21 → ⊥) → (not (eqb (kind_at t j) 22 || eqb (kind_at t j) 24) && not (of_children (kind_at t j))) ≡ acting strings (node_head t j)
+  unfolding node_head
+  acts_other n = rw (ne_eqb 21 (kind_at t j) (λ z. n (sym z))) (go (ℕ_discrete (kind_at t j) 22) (ℕ_discrete (kind_at t j) 24) (of_children (kind_at t j)) refl)
+    where
+      go : Dec (kind_at t j ≡ 22) → Dec (kind_at t j ≡ 24) → (b : Bool) → of_children (kind_at t j) ≡ b
+          → (not (eqb (kind_at t j) 22 || eqb (kind_at t j) 24) && not (of_children (kind_at t j))) ≡ acts_by (look (kind_at t j) effects some_effect)
+      go (yes e) d b q = rw e
+      go (no a) (yes e) b q = rw e
+      go (no a) (no c) true q = rw (them (kind_at t j) q, q, ne_eqb (kind_at t j) 22 a, ne_eqb (kind_at t j) 24 c)
+      go (no a) (no c) false q = rw (by_itself (kind_at t j) a c q, q, ne_eqb (kind_at t j) 22 a, ne_eqb (kind_at t j) 24 c)
 
-pub acts_low : (strings : List Bool) (t : List ℕ) (j : ℕ) → (kind_at t j ≡ 21 → ⊥) → (kind_at t j ≡ 22 → ⊥) → (kind_at t j ≡ 24 → ⊥) → kind_at t j < 27
-    → true ≡ acting strings (node_head t j)
-unfolding node_head
-acts_low strings t j a b c h =
-    rw (ne_eqb 21 (kind_at t j) (λ z. a (sym z)))
-    (look_all (λ m x. (m ≡ 22 → ⊥) → (m ≡ 24 → ⊥) → m < 27 → true ≡ acts_by x) (kind_at t j) effects some_effect
-    (λ a b c. absurd (a refl), (λ a b c. absurd (b refl), (λ a b c. absurd (omega arith), (λ a b c. absurd (omega arith), (λ a b c. absurd (omega arith), (λ a b c. absurd (omega arith), tt))))))
-    (λ a b c. refl) b c h)
+pub inside_them : (t : List ℕ) (j : ℕ) → of_children (kind_at t j) ≡ true → j + 1 ≡ inside t j
+inside_them t j h = rw (them (kind_at t j) h)
 
-pub acts_high : (strings : List Bool) (t : List ℕ) (j : ℕ) → (kind_at t j ≡ 21 → ⊥) → 27 ≤ kind_at t j → ltb 30 (kind_at t j) ≡ acting strings (node_head t j)
-unfolding node_head
-acts_high strings t j a h = rw (ne_eqb 21 (kind_at t j) (λ z. a (sym z))) (go (dec_lt 30 (kind_at t j)))
-  where
-    go : Dec (30 < kind_at t j) → ltb 30 (kind_at t j) ≡ acts_by (look (kind_at t j) effects some_effect)
-    go (yes l) = rw (lt-ltb 30 (kind_at t j) l, above (kind_at t j) l)
-    go (no l) = rw (le-ltb 30 (kind_at t j) (omega arith), by_them (kind_at t j) h (omega arith))
-
-pub inside_low : (t : List ℕ) (j : ℕ) → kind_at t j < 27 → j + size_at t j ≡ inside t j
-inside_low t j h =
-    look_all (λ m x. m < 27 → j + size_at t j ≡ onto x (j + 1) (j + size_at t j)) (kind_at t j) effects some_effect
-    (λ a. refl, (λ a. refl, (λ a. absurd (omega arith), (λ a. absurd (omega arith), (λ a. absurd (omega arith), (λ a. absurd (omega arith), tt))))))
-    (λ a. refl) h
-
-pub inside_above : (t : List ℕ) (j : ℕ) → 30 < kind_at t j → j + size_at t j ≡ inside t j
-inside_above t j h = rw (above (kind_at t j) h)
-
-pub inside_them : (t : List ℕ) (j : ℕ) → 27 ≤ kind_at t j → kind_at t j ≤ 30 → j + 1 ≡ inside t j
-inside_them t j a b = rw (by_them (kind_at t j) a b)
+pub inside_other : (t : List ℕ) (j : ℕ) → of_children (kind_at t j) ≡ false → j + size_at t j ≡ inside t j
+inside_other t j h =
+    look_all (λ m x. of_children m ≡ false → j + size_at t j ≡ onto x (j + 1) (j + size_at t j)) (kind_at t j) effects some_effect
+    (λ c. refl, (λ c. refl, (λ c. false_true (sym c), (λ c. false_true (sym c), (λ c. false_true (sym c), (λ c. false_true (sym c), tt))))))
+    (λ c. refl) h
 
 pub inside_after : (t : List ℕ) (j : ℕ) → 1 ≤ size_at t j → j < inside t j
 inside_after t j h = go (look (kind_at t j) effects some_effect)
@@ -171,22 +153,21 @@ module _ (strings : List Bool) (t : List ℕ) (i : ℕ) where
   abbrev pub here_idle : List Rec
   here_idle = idle_at strings (node_head t i) (forest_of t (i + 1) (i + size_at t i))
 
-  pub idle_no : (p : Page) → (kind_at t i ≡ 5 → ⊥) → p ≡ writes p here_idle
+  pub idle_no : (kind_at t i ≡ 5 → ⊥) → here_idle ≡ []
   unfolding node_head
-  idle_no p n = wrote_none p (effect_other (is_text strings) (node_head t i) (forest_of t (i + 1) (i + size_at t i)) [] n)
+  idle_no n = effect_other (is_text strings) (node_head t i) (forest_of t (i + 1) (i + size_at t i)) [] n
 
-  pub idle_acts : (p : Page) {b : Bool} → kind_at t i ≡ 5 → b ≡ effect (is_text strings) (forest_of t (i + 1) (i + size_at t i)) → b ≡ true → p ≡ writes p here_idle
+  pub idle_acts : {b : Bool} → kind_at t i ≡ 5 → b ≡ effect (is_text strings) (forest_of t (i + 1) (i + size_at t i)) → b ≡ true → here_idle ≡ []
   unfolding node_head
-  idle_acts p k e h = wrote_none p (rw (k, sym e ∙ h))
+  idle_acts k e h = rw (k, sym e ∙ h)
 
-  pub idle_put : (p : Page) {q : Page} {b : Bool} → Subtree t i → kind_at t i ≡ 5
+  pub idle_put : {b : Bool} → Subtree t i → kind_at t i ≡ 5
       → b ≡ effect (is_text strings) (forest_of t (i + 1) (i + size_at t i)) → b ≡ false → (c : ℕ)
-      → c ≡ child_of t 4 (i + 1) (i + size_at t i) → c < i + size_at t i
-      → q ≡ write p (plainly 13 (node_head t c)) → q ≡ writes p here_idle
+      → Some c ≡ first_child t 4 (i + 1) (i + size_at t i) → here_idle ≡ plainly 13 (node_head t c) ∷ []
   unfolding node_head
-  idle_put p w k e h c y lt q =
-      wrote_one p (plainly 13 (node_head t c)) q
-      (rw (k, sym e ∙ h) (ap (λ (s : Head). plainly 13 s ∷ []) (head_there 4 (below w) (omega (arith, w.some)) (rw y at lt) ∙ ap (node_head t) (sym y))))
+  idle_put w k e h c y =
+      let z = child_some t 4 (i + 1) (i + size_at t i) c y in
+      rw (k, sym e ∙ h) (ap (λ (s : Head). plainly 13 s ∷ []) (head_there 4 (below w) (omega (arith, w.some)) (rw z.0 at z.1) ∙ ap (node_head t) (sym z.0)))
 
 module _ (strings : List Bool) where
   abbrev walk : Forest → List Rec
@@ -228,52 +209,62 @@ into_after k t i h = go (eqb k (kind_at t i))
 
 -- ---- 12
 
-pub text_none : (F : ℕ → Bool) (t : List ℕ) (i e : ℕ) → e ≤ i → false ≡ string_stated F (forest_of t i e)
-text_none F t i e h = rw (forest_none t i e h)
-
-pub text_other : (F : ℕ → Bool) {t : List ℕ} {i e : ℕ} → Part t i e → i < e → (kind_at t i ≡ 21 → ⊥) → false ≡ string_stated F (forest_of t i e)
-unfolding node_head
-text_other F {t} {i} {e} p lt n = rw (forest_node p lt) (rw (ne_eqb 21 (kind_at t i) (λ z. n (sym z))))
-
-pub text_there : (F : ℕ → Bool) {t : List ℕ} {i e : ℕ} {b : Bool} → Part t i e → i < e → kind_at t i ≡ 21 → b ≡ F (value_at t i) → b ≡ string_stated F (forest_of t i e)
+pub text_so : (F : ℕ → Bool) {t : List ℕ} {i e : ℕ} → Part t i e
+    → string_stated F (forest_of t i e) ≡ (ltb i e && (eqb (kind_at t i) 21 && F (value_at t i)))
 unfolding node_head node_spot
-text_there F {t} {i} {e} p lt k h = rw (forest_node p lt) (rw k h)
+text_so F {t} {i} {e} p = go (dec_lt i e)
+  where
+    here : Dec (kind_at t i ≡ 21) → (eqb 21 (kind_at t i) && F (value_at t i)) ≡ (eqb (kind_at t i) 21 && F (value_at t i))
+    here (yes k) = rw k
+    here (no n) = rw (ne_eqb 21 (kind_at t i) (λ z. n (sym z)), ne_eqb (kind_at t i) 21 n)
+
+    go : Dec (i < e) → string_stated F (forest_of t i e) ≡ (ltb i e && (eqb (kind_at t i) 21 && F (value_at t i)))
+    go (yes l) = rw (forest_node p l, lt-ltb i e l) (here (ℕ_discrete (kind_at t i) 21))
+    go (no l) = rw (forest_none t i e (omega arith), le-ltb i e (omega arith))
 
 module _ (strings : List Bool) (may : Bool) (t : List ℕ) (j : ℕ) where
   abbrev pub load_here : Loads
   load_here = load_at strings may (node_head t j) (forest_of t (j + 1) (j + size_at t j))
 
-  pub may_list : kind_at t j ≡ 8 → may ≡ load_here.may
+  pub may_so : load_here.may ≡ (may && ((eqb (kind_at t j) 8 || eqb (kind_at t j) 13) || (eqb (kind_at t j) 5 && string_stated (is_text strings) (forest_of t (j + 1) (j + size_at t j)))))
   unfolding node_head
-  may_list k = rw k
+  may_so = go (ℕ_discrete (kind_at t j) 5) (ℕ_discrete (kind_at t j) 8) (ℕ_discrete (kind_at t j) 13) may
+    where
+      always : (b : Bool) → b ≡ (b && true)
+      always true = refl
+      always false = refl
 
-  pub may_load : kind_at t j ≡ 13 → may ≡ load_here.may
-  unfolding node_head
-  may_load k = rw k
+      never : (b : Bool) → false ≡ (b && false)
+      never true = refl
+      never false = refl
 
-  pub may_text : {b : Bool} → kind_at t j ≡ 5 → may ≡ true → b ≡ string_stated (is_text strings) (forest_of t (j + 1) (j + size_at t j)) → b ≡ load_here.may
-  unfolding node_head
-  may_text k m e = rw (k, m) e
+      go : Dec (kind_at t j ≡ 5) → Dec (kind_at t j ≡ 8) → Dec (kind_at t j ≡ 13) → (m : Bool)
+          → (load_at strings m (node_head t j) (forest_of t (j + 1) (j + size_at t j))).may
+          ≡ (m && ((eqb (kind_at t j) 8 || eqb (kind_at t j) 13) || (eqb (kind_at t j) 5 && string_stated (is_text strings) (forest_of t (j + 1) (j + size_at t j)))))
+      go (yes k) b c m = rw k
+      go (no a) (yes k) c m = rw k (always m)
+      go (no a) (no b) (yes k) m = rw k (always m)
+      go (no a) (no b) (no c) m =
+          rw (loads_end (is_text strings) m (node_head t j) (forest_of t (j + 1) (j + size_at t j)) (λ v. record { may = v; recs = [] }) a b c, ne_eqb (kind_at t j) 5 a, ne_eqb (kind_at t j) 8 b, ne_eqb (kind_at t j) 13 c)
+          (never m)
 
-  pub may_not : kind_at t j ≡ 5 → may ≡ false → false ≡ load_here.may
+  pub load_no : (kind_at t j ≡ 13 → ⊥) → load_here.recs ≡ []
   unfolding node_head
-  may_not k m = rw (k, m)
+  load_no n = loads_silent (is_text strings) may (node_head t j) (forest_of t (j + 1) (j + size_at t j)) n
 
-  pub may_end : (kind_at t j ≡ 5 → ⊥) → (kind_at t j ≡ 8 → ⊥) → (kind_at t j ≡ 13 → ⊥) → false ≡ load_here.may
+  here_load : kind_at t j ≡ 13 → load_here.recs ≡ listed (not may) (plainly 12 (node_head t j) ∷ []) []
   unfolding node_head
-  may_end a b c = rw (loads_end (is_text strings) may (node_head t j) (forest_of t (j + 1) (j + size_at t j)) (λ v. record { may = v; recs = [] }) a b c)
+  here_load k = ap (λ (l : Loads). l.recs) (loads_load (is_text strings) may (node_head t j) (forest_of t (j + 1) (j + size_at t j)) (λ v. record { may = v; recs = [] }) k)
 
-  pub load_no : (p : Page) → (kind_at t j ≡ 13 → ⊥) → p ≡ writes p load_here.recs
-  unfolding node_head
-  load_no p n = wrote_none p (loads_silent (is_text strings) may (node_head t j) (forest_of t (j + 1) (j + size_at t j)) n)
+  pub load_allowed : may ≡ true → load_here.recs ≡ []
+  load_allowed m = go (ℕ_discrete (kind_at t j) 13)
+    where
+      go : Dec (kind_at t j ≡ 13) → load_here.recs ≡ []
+      go (yes k) = here_load k ∙ rw m
+      go (no n) = load_no n
 
-  pub load_allowed : (p : Page) → kind_at t j ≡ 13 → may ≡ true → p ≡ writes p load_here.recs
-  unfolding node_head
-  load_allowed p k m = wrote_none p (ap (λ (l : Loads). l.recs) (loads_load (is_text strings) may (node_head t j) (forest_of t (j + 1) (j + size_at t j)) (λ v. record { may = v; recs = [] }) k) ∙ rw m)
-
-  pub load_put : (p : Page) {q : Page} → kind_at t j ≡ 13 → may ≡ false → q ≡ write p (plainly 12 (node_head t j)) → q ≡ writes p load_here.recs
-  unfolding node_head
-  load_put p k m q = wrote_one p (plainly 12 (node_head t j)) q (ap (λ (l : Loads). l.recs) (loads_load (is_text strings) may (node_head t j) (forest_of t (j + 1) (j + size_at t j)) (λ v. record { may = v; recs = [] }) k) ∙ rw m)
+  pub load_put : kind_at t j ≡ 13 → may ≡ false → load_here.recs ≡ plainly 12 (node_head t j) ∷ []
+  load_put k m = here_load k ∙ rw m
 
 module _ (F : ℕ → Bool) where
   loads_beside : (a b : Forest) (may : Bool)

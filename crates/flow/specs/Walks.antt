@@ -29,8 +29,8 @@ abbrev pub acting : List Bool → Head → Bool
 acting strings h = cond (eqb 21 h.kind) (is_text strings h.spot.value) (acts_by (look h.kind effects some_effect))
 
 -- conditionals, tuples, lists and dicts
-abbrev pub by_them : ℕ → Bool
-by_them k = leb 27 k && leb k 30
+abbrev pub of_children : ℕ → Bool
+of_children k = leb 27 k && leb k 30
 
 -- the next node to look at
 abbrev pub onto : Effect → ℕ → ℕ → ℕ

@@ -1,12 +1,12 @@
 // The fifth walk: 13 for an expression without effect as a statement.
-ghost use Rattle.std.specs.Prelude.{◌≡◌, ◌+◌, ◌<◌};
+ghost use Rattle.std.specs.Prelude.{◌≡◌, ◌||◌, ◌+◌, ◌<◌, eqb};
 ghost use Rattle.tree.specs.Bytes.{size_at};
 ghost use Rattle.tree.specs.Forest.{node_head, forest_of};
 ghost use Rattle.tree.specs.code.Part.{Part, Subtree};
 ghost use Rattle.rules.specs.Flow.{effect, effect_walk};
 ghost use Rattle.answer.specs.Page.{Added};
 ghost use Rattle.flow.specs.Returns.{Checked};
-ghost use Rattle.flow.specs.Walks.{Stated, is_text, by_them, acting, inside, idle_at, past_of};
+ghost use Rattle.flow.specs.Walks.{Stated, is_text, of_children, acting, inside, idle_at, past_of};
 
 use crate::loads::is_string;
 use answer::Sheet;
@@ -17,12 +17,19 @@ use tree::kinds::{Kind, Role};
 
 // Conditionals, tuples, lists and dicts have effect by their children.
 fn by_children(k: usize) -> bool
-    ensures { result ≡ by_them k }
+    ensures { result ≡ of_children k }
 {
     Kind::Tuple as usize <= k && k <= Kind::Conditional as usize
 }
 
-// Node j has effect by itself: a string literal, and what is no literal, ellipsis or lambda, and has none by its children.
+// Ellipsis and lambdas have none.
+fn has_none(k: usize) -> bool
+    ensures { result ≡ (eqb k 22 || eqb k 24) }
+{
+    k == Kind::Ellipsis as usize || k == Kind::Lambda as usize
+}
+
+// Node j has effect by itself: a string literal, and what is no literal, and neither has none nor has it by its children.
 fn acts(t: &[u8], strings: &[bool; 512], j: usize) -> bool
     ensures { result ≡ acting strings.now (node_head t.now j) }
 {
@@ -30,7 +37,7 @@ fn acts(t: &[u8], strings: &[bool; 512], j: usize) -> bool
     if k == Kind::Literal as usize {
         return is_string(strings, value_at(t, j));
     }
-    k != Kind::Ellipsis as usize && k != Kind::Lambda as usize && !by_children(k)
+    !has_none(k) && !by_children(k)
 }
 
 // The insides of what has no effect by its children are not looked at.

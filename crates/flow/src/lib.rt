@@ -21,6 +21,7 @@ mod returns;
 
 // A file of n nodes, the numbers of its names fail and None, and which of its values are strings.
 // Kept: a name that the file has not is 65536, no value's number, so that it compares like any other (number_of is tree's, and gives it).
+#[derive(Drop)]
 struct Walks<'a> {
     t: &'a [u8],
     n: usize,

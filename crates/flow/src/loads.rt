@@ -1,5 +1,5 @@
 // The fourth walk: 12 for a load after anything but loads and string literals.
-ghost use Rattle.std.specs.Prelude.{◌≡◌, List, Bool, true, ◌+◌, ◌<◌};
+ghost use Rattle.std.specs.Prelude.{◌≡◌, List, Bool, true, ◌||◌, ◌+◌, ◌<◌, eqb};
 ghost use Rattle.tree.specs.Bytes.{size_at};
 ghost use Rattle.tree.specs.Forest.{node_head, forest_of};
 ghost use Rattle.tree.specs.code.Part.{Part, Subtree};
@@ -26,6 +26,13 @@ fn is_text(t: &[u8], strings: &[bool; 512], i: usize, e: usize) -> bool
     i < e && kind_at(t, i) == Kind::Literal as usize && is_string(strings, value_at(t, i))
 }
 
+// Loads are allowed after these where they are before: lists are flattened.
+fn keeps(k: usize) -> bool
+    ensures { result ≡ (eqb k 8 || eqb k 13) }
+{
+    k == Kind::Statements as usize || k == Kind::Load as usize
+}
+
 // Whether loads are allowed after the statement at node j.
 fn allows(t: &[u8], strings: &[bool; 512], allowed: bool, j: usize) -> bool
     requires { Subtree t.now j }
@@ -33,8 +40,7 @@ fn allows(t: &[u8], strings: &[bool; 512], allowed: bool, j: usize) -> bool
 {
     let k = kind_at(t, j);
     allowed
-        && (k == Kind::Statements as usize
-            || k == Kind::Load as usize
+        && (keeps(k)
             || k == Kind::Expression as usize && is_text(t, strings, j + 1, j + size_at(t, j)))
 }
 

@@ -1,7 +1,8 @@
 -- 15: what each step and return of the walk shows of the deeds. Assumes nothing.
+use Rattle.std.specs.Prelude.{Option, None, Some}
 use Prim.Native.Nat.{ℕ, ◌+◌, ◌≤◌, ◌<◌}
 use native.Mathlib.Omega.{arith}
-use native.Mathlib.Decide.{dec_lt, ℕ_discrete}
+use native.Mathlib.Decide.{ℕ_discrete}
 use mathlib.Core.Path.{◌≡◌, refl, sym, ap, subst, ◌∙◌}
 use mathlib.Core.List.{List, [], ◌∷◌, ◌++◌, append-nil, append_assoc}
 use mathlib.Core.Bool.{Bool, true, false, ◌&&◌, ◌||◌}
@@ -11,7 +12,7 @@ use Rattle.tree.specs.Bytes.{kind_at, role_at, size_at, value_at, pick}
 use Rattle.tree.specs.Nodes.{holds_name}
 use Rattle.tree.specs.Forest.{Head, Forest, node, node_spot, node_head, forest_of}
 use Rattle.tree.specs.code.Part.{Part}
-use Rattle.tree.specs.code.Find.{child_of}
+use Rattle.tree.specs.code.Find.{first_child}
 use Rattle.tree.proofs.Search.{clash}
 use Rattle.tree.proofs.Laws.{later, sized, ended, kids, rest}
 use Rattle.rules.specs.Record.{listed}
@@ -20,11 +21,10 @@ use Rattle.rules.specs.Order.{nothing, bindings, bind_of}
 use Rattle.rules.specs.Incompatible.{Deed, defines, repeats, deed_part, defined_names, self_set, Top, assigning, modifying, defining, loading, holding, aside, tops, top_part, deeds}
 use Rattle.rules.proofs.Look.{look_all}
 use Rattle.answer.proofs.Flat.{past, over, split}
-use Rattle.incompatible.specs.declared.assigns.Defined.{Defined}
 use Rattle.incompatible.specs.Ground.{Low}
-use Rattle.incompatible.specs.Ledger.{named_one, below_one, is_several, goes_in, top_of, deeds_one, top_assign, Does}
-use Rattle.incompatible.proofs.Checks.{not_eqb, and_false, head_is, kind_is, spot_is, kind_missing}
-use Rattle.incompatible.proofs.Told.{does_none}
+use Rattle.incompatible.specs.Ledger.{named_one, below_one, is_several, goes_in, top_of, deeds_one, top_assign, SelfSet}
+use Rattle.answer.proofs.Bits.{and_false}
+use Rattle.incompatible.proofs.Checks.{not_eqb, below_e, head_is, kind_is, spot_is, kind_missing}
 
 -- ---- what a node binds
 
@@ -112,43 +112,38 @@ pub going_part : {t : List ℕ} {j e : ℕ} (b : Bool) → Part t j e → j < e
 going_part true p lt = (later p (omega arith), omega arith, omega arith)
 going_part false p lt = (rest p lt, omega (arith, sized p lt), ended p lt)
 
-abbrev pub inside : List ℕ → ℕ → Forest
-inside t j = forest_of t (j + 1) (j + size_at t j)
+-- ---- one node of a role
 
--- ---- one node of a role: the words o, what is defined d before; after it o' and r
-
-module _ (t o : List ℕ) (d : Defined) (role j : ℕ) (f : Forest) where
-  pub role_other : (role_at t j ≡ role → ⊥) → Does t o d (named_one role (node_head t j) f) o d
+module _ (t : List ℕ) (role j : ℕ) (f : Forest) where
+  pub role_other : (role_at t j ≡ role → ⊥) → named_one role (node_head t j) f ≡ []
   unfolding node_head
-  role_other h = rw (not_eqb h) (does_none t o d)
+  role_other h = rw (not_eqb h)
 
   module _ (er : role_at t j ≡ role) where
-    pub role_none : (kind_at t j ≡ 41 → ⊥) → false ≡ bound (kind_at t j) → Does t o d (named_one role (node_head t j) f) o d
+    pub role_none : (kind_at t j ≡ 41 → ⊥) → false ≡ bound (kind_at t j) → named_one role (node_head t j) f ≡ []
     unfolding node_head
-    role_none n b = rw (eq-eqb role (role_at t j) (sym er), binds_none (kind_at t j) (node_head t j) (λ v. defined_names v f) b n) (does_none t o d)
+    role_none n b = rw (eq-eqb role (role_at t j) (sym er), binds_none (kind_at t j) (node_head t j) (λ v. defined_names v f) b n)
 
-    module _ (o' : List ℕ) (r : Defined) where
-      pub role_several : kind_at t j ≡ 41 → Does t o d (defined_names 0 f) o' r → Does t o d (named_one role (node_head t j) f) o' r
-      unfolding node_head
-      role_several k w = rw (eq-eqb role (role_at t j) (sym er), k, append-nil) w
+    pub role_several : kind_at t j ≡ 41 → named_one role (node_head t j) f ≡ defined_names 0 f
+    unfolding node_head
+    role_several k = rw (eq-eqb role (role_at t j) (sym er), k, append-nil)
 
-      pub role_one : true ≡ bound (kind_at t j) → Does t o d (defines (eqb (kind_at t j) 47) (node_head t j) ∷ []) o' r → Does t o d (named_one role (node_head t j) f) o' r
-      unfolding node_head
-      role_one b w = rw (eq-eqb role (role_at t j) (sym er), binds_one (kind_at t j) (node_head t j) (λ v. defined_names v f) b) w
+    pub role_one : true ≡ bound (kind_at t j) → named_one role (node_head t j) f ≡ defines (eqb (kind_at t j) 47) (node_head t j) ∷ []
+    unfolding node_head
+    role_one b = rw (eq-eqb role (role_at t j) (sym er), binds_one (kind_at t j) (node_head t j) (λ v. defined_names v f) b)
 
-module _ (t o : List ℕ) (d : Defined) (j : ℕ) where
-  pub below_other : (role_at t j ≡ 0 → ⊥) → Does t o d (below_one (node_head t j)) o d
+module _ (t : List ℕ) (j : ℕ) where
+  pub below_other : (role_at t j ≡ 0 → ⊥) → below_one (node_head t j) ≡ []
   unfolding node_head
-  below_other h = rw (not_eqb h) (does_none t o d)
+  below_other h = rw (not_eqb h)
 
-  pub below_none : role_at t j ≡ 0 → false ≡ bound (kind_at t j) → Does t o d (below_one (node_head t j)) o d
+  pub below_none : role_at t j ≡ 0 → false ≡ bound (kind_at t j) → below_one (node_head t j) ≡ []
   unfolding node_head
-  below_none er b = rw (eq-eqb 0 (role_at t j) (sym er), binds_below (kind_at t j) (node_head t j) b) (does_none t o d)
+  below_none er b = rw (eq-eqb 0 (role_at t j) (sym er), binds_below (kind_at t j) (node_head t j) b)
 
-  pub below_name : (o' : List ℕ) (r : Defined) → role_at t j ≡ 0 → true ≡ bound (kind_at t j)
-      → Does t o d (defines (eqb (kind_at t j) 47) (node_head t j) ∷ []) o' r → Does t o d (below_one (node_head t j)) o' r
+  pub below_name : role_at t j ≡ 0 → true ≡ bound (kind_at t j) → below_one (node_head t j) ≡ defines (eqb (kind_at t j) 47) (node_head t j) ∷ []
   unfolding node_head
-  below_name o' r er b w = rw (eq-eqb 0 (role_at t j) (sym er), binds_one (kind_at t j) (node_head t j) (λ v. []) b) w
+  below_name er b = rw (eq-eqb 0 (role_at t j) (sym er), binds_one (kind_at t j) (node_head t j) (λ v. []) b)
 
 module _ (t : List ℕ) (j : ℕ) where
   pub several_yes : role_at t j ≡ 0 → kind_at t j ≡ 41 → is_several (node_head t j) ≡ true
@@ -165,49 +160,39 @@ module _ (t : List ℕ) (j : ℕ) where
 
 -- ---- x = x: the first child of role 5 at x, of role 4 at y
 
-module _ {t : List ℕ} {i e x y : ℕ} (part : Part t i e) (le : i ≤ e) (ex : x ≡ child_of t 5 i e) (ey : y ≡ child_of t 4 i e) where
-  pub self_no_target : e ≤ x → false ≡ self_set (forest_of t i e)
-  self_no_target h = rw (kind_missing 5 part le ex h)
+module _ {t : List ℕ} {i e : ℕ} (part : Part t i e) (le : i ≤ e) where
+  pub self_no_target : ◌≡◌ {A = Option ℕ} None (first_child t 5 i e) → self_set (forest_of t i e) ≡ false
+  self_no_target absent = rw (kind_missing 5 part le absent)
 
-  pub self_no_value : e ≤ y → false ≡ self_set (forest_of t i e)
-  self_no_value h = rw (kind_missing 4 part le ey h) (sym (and_false (eqb 40 (kind_among 5 (forest_of t i e)))))
+  pub self_no_value : ◌≡◌ {A = Option ℕ} None (first_child t 4 i e) → self_set (forest_of t i e) ≡ false
+  self_no_value absent = rw (kind_missing 4 part le absent) (and_false (eqb 40 (kind_among 5 (forest_of t i e))))
 
-  module _ (hx : x < e) (hy : y < e) where
-    pub self_other : (kind_at t x ≡ 40 → ⊥) → false ≡ self_set (forest_of t i e)
-    self_other n = rw (kind_is 5 part le ex hx, not_eqb n)
-
-    pub self_value : (kind_at t y ≡ 20 → ⊥) → false ≡ self_set (forest_of t i e)
-    self_value n = rw (kind_is 4 part le ey hy, not_eqb n) (sym (and_false (eqb 40 (kind_among 5 (forest_of t i e)))))
-
-    pub self_is : kind_at t x ≡ 40 → kind_at t y ≡ 20 → eqb (value_at t x) (value_at t y) ≡ self_set (forest_of t i e)
+  module _ {x y : ℕ} (is_x : ◌≡◌ {A = Option ℕ} (Some x) (first_child t 5 i e)) (is_y : ◌≡◌ {A = Option ℕ} (Some y) (first_child t 4 i e)) where
+    self_is : self_set (forest_of t i e) ≡ eqb 40 (kind_at t x) && (eqb 20 (kind_at t y) && eqb (value_at t x) (value_at t y))
     unfolding node_spot
-    self_is a b = rw (kind_is 5 part le ex hx, kind_is 4 part le ey hy, a, b, spot_is 5 part le ex hx, spot_is 4 part le ey hy)
+    self_is = rw (kind_is 5 part le is_x, kind_is 4 part le is_y, spot_is 5 part le is_x, spot_is 4 part le is_y)
 
-  -- where it is, the target is there, and a name
-  pub self_target : true ≡ self_set (forest_of t i e) → (x < e) × (kind_at t x ≡ 40)
-  self_target f = go (dec_lt x e)
-    where
-      go : Dec (x < e) → (x < e) × (kind_at t x ≡ 40)
-      go (yes h) = (h, on (ℕ_discrete (kind_at t x) 40))
-        where
-          on : Dec (kind_at t x ≡ 40) → kind_at t x ≡ 40
-          on (yes z) = z
-          on (no n) = clash (sym f) (rw (kind_is 5 part le ex h, not_eqb n))
-      go (no h) = clash (sym f) (sym (self_no_target (omega arith)))
+    pub self_other : (kind_at t x ≡ 40 → ⊥) → self_set (forest_of t i e) ≡ false
+    self_other n = self_is ∙ rw (not_eqb n)
 
-pub self_asks : {t : List ℕ} {i e x : ℕ} → Part t i e → i ≤ e → x ≡ child_of t 5 i e → Low t e → true ≡ self_set (forest_of t i e)
-    → (value_at t x < 512) × (x < 1024) × (kind_at t x ≡ 40)
-self_asks {t} {i} {e} {x} part le ex l f =
-    let s = self_target part le ex refl f in
-    (l.low x s.0 (rw s.1 tt), omega (arith, s.0, part.few), s.1)
+    pub self_value : (kind_at t y ≡ 20 → ⊥) → self_set (forest_of t i e) ≡ false
+    self_value n = self_is ∙ rw (not_eqb n, and_false (eqb 40 (kind_at t x)))
 
-module _ (t : List ℕ) (i e : ℕ) (o : List ℕ) (d : Defined) (o' : List ℕ) (r : Defined) where
-  pub assign_repeat : {x : ℕ} → Part t i e → i ≤ e → x ≡ child_of t 5 i e → true ≡ self_set (forest_of t i e)
-      → Does t o d (repeats (node_head t x) ∷ []) o' r → Does t o d (top_assign (forest_of t i e)) o' r
-  assign_repeat {x} part le ex f w = rw (sym f, head_is 5 part le ex (self_target part le ex refl f).0) w
+    pub self_apart : (value_at t x ≡ value_at t y → ⊥) → self_set (forest_of t i e) ≡ false
+    self_apart n = self_is ∙ rw (ne_eqb (value_at t x) (value_at t y) n, and_false (eqb 20 (kind_at t y)), and_false (eqb 40 (kind_at t x)))
 
-  pub assign_named : false ≡ self_set (forest_of t i e) → Does t o d (defined_names 5 (forest_of t i e)) o' r → Does t o d (top_assign (forest_of t i e)) o' r
-  assign_named f w = rw (sym f) w
+    pub self_found : kind_at t x ≡ 40 → kind_at t y ≡ 20 → value_at t x ≡ value_at t y → SelfSet t i e (Some x)
+    self_found a b c =
+        (self_is ∙ rw (a, b, eq-eqb (value_at t x) (value_at t y) c), head_is 5 part le is_x, below_e 5 part le is_x, a)
+
+pub self_asks : (t : List ℕ) (i e x : ℕ) → Part t i e → SelfSet t i e (Some x) → Low t e → (value_at t x < 512) × (x < 1024) × (kind_at t x ≡ 40)
+self_asks t i e x part f l = (l.low x f.2 (rw f.3 tt), omega (arith, f.2, part.few), f.3)
+
+pub assign_repeat : (t : List ℕ) (i e x : ℕ) → SelfSet t i e (Some x) → top_assign (forest_of t i e) ≡ repeats (node_head t x) ∷ []
+assign_repeat t i e x f = rw (f.0, f.1)
+
+pub assign_named : (t : List ℕ) (i e : ℕ) → self_set (forest_of t i e) ≡ false → top_assign (forest_of t i e) ≡ defined_names 5 (forest_of t i e)
+assign_named t i e f = rw f
 
 -- ---- a statement
 
@@ -262,24 +247,23 @@ other_none k f =
     look_all (λ n b. (n ≡ 6 → ⊥) → (n ≡ 7 → ⊥) → (n ≡ 12 → ⊥) → (n ≡ 13 → ⊥) → top_part b f [] ≡ []) k tops aside
     ((λ x y z w. absurd (x refl)), ((λ x y z w. absurd (y refl)), ((λ x y z w. absurd (z refl)), ((λ x y z w. absurd (w refl)), ((λ x y z w. refl), ((λ x y z w. refl), ((λ x y z w. refl), ((λ x y z w. refl), tt)))))))) (λ x y z w. refl)
 
-module _ (t o : List ℕ) (d : Defined) (i : ℕ) (f : Forest) (o' : List ℕ) (r : Defined) where
-  pub stmt_assign : kind_at t i ≡ 6 → Does t o d (top_assign f) o' r → Does t o d (deeds_one (node_head t i) f) o' r
+module _ (t : List ℕ) (i : ℕ) (f : Forest) where
+  pub stmt_assign : kind_at t i ≡ 6 → deeds_one (node_head t i) f ≡ top_assign f
   unfolding node_head
-  stmt_assign k w = rw k w
+  stmt_assign k = rw k
 
-  pub stmt_modify : kind_at t i ≡ 7 → Does t o d (defined_names 5 f) o' r → Does t o d (deeds_one (node_head t i) f) o' r
+  pub stmt_modify : kind_at t i ≡ 7 → deeds_one (node_head t i) f ≡ defined_names 5 f
   unfolding node_head
-  stmt_modify k w = rw k w
+  stmt_modify k = rw k
 
-  pub stmt_def : kind_at t i ≡ 12 → Does t o d (defined_names 6 f) o' r → Does t o d (deeds_one (node_head t i) f) o' r
+  pub stmt_def : kind_at t i ≡ 12 → deeds_one (node_head t i) f ≡ defined_names 6 f
   unfolding node_head
-  stmt_def k w = rw k w
+  stmt_def k = rw k
 
-  pub stmt_load : kind_at t i ≡ 13 → Does t o d (defined_names 0 f) o' r → Does t o d (deeds_one (node_head t i) f) o' r
+  pub stmt_load : kind_at t i ≡ 13 → deeds_one (node_head t i) f ≡ defined_names 0 f
   unfolding node_head
-  stmt_load k w = rw k w
+  stmt_load k = rw k
 
-pub stmt_other : (t o : List ℕ) (d : Defined) (i : ℕ) (f : Forest) → (kind_at t i ≡ 6 → ⊥) → (kind_at t i ≡ 7 → ⊥) → (kind_at t i ≡ 12 → ⊥) → (kind_at t i ≡ 13 → ⊥)
-    → Does t o d (deeds_one (node_head t i) f) o d
-unfolding node_head
-stmt_other t o d i f x y z w = rw (other_none (kind_at t i) f x y z w) (does_none t o d)
+  pub stmt_other : (kind_at t i ≡ 6 → ⊥) → (kind_at t i ≡ 7 → ⊥) → (kind_at t i ≡ 12 → ⊥) → (kind_at t i ≡ 13 → ⊥) → deeds_one (node_head t i) f ≡ []
+  unfolding node_head
+  stmt_other x y z w = other_none (kind_at t i) f x y z w

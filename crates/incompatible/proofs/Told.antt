@@ -1,26 +1,28 @@
--- 15: what is told by tables is what the rule judges. Assumes nothing.
-use Prim.Native.Nat.{ℕ, suc, ◌+◌, ◌-◌, ◌≤◌, ◌<◌}
+-- 15: what is told by the table is what the rule judges. Assumes nothing.
+use Rattle.std.specs.Prelude.{Option as Maybe, None, Some}
+use Prim.Native.Nat.{ℕ, suc, ◌-◌, ◌≤◌, ◌<◌}
 use native.Mathlib.Omega.{arith}
 use native.Mathlib.Decide.{dec_lt, ℕ_discrete}
-use native.Mathlib.Numerals.{add-one}
 use mathlib.Core.Path.{◌≡◌, refl, sym, ap, ap₂, fun_ext, ◌∙◌}
 use mathlib.Core.List.{List, [], ◌∷◌, ◌++◌, append_assoc}
 use mathlib.Core.Option.{Option, none, some}
-use mathlib.Core.Bool.{Bool, true, false, ◌||◌}
+use mathlib.Core.Bool.{Bool, true, false, ◌&&◌, ◌||◌}
 use lib.Dec.{eqb}
 use lib.ListN.{length, get_or, set, replicate, length-replicate, get_or-replicate}
 use lib.Seq.{get_or-set_same, get_or-set_other}
-use borrow.Author.Tests.{eq-eqb, ne_eqb}
+use borrow.Author.Tests.{eq-eqb, ne_eqb, eqb-true}
 use Rattle.tree.specs.Bytes.{kind_at, value_at}
 use Rattle.tree.specs.Forest.{Head, node_spot, node_head}
 use Rattle.rules.specs.Record.{Rec}
 use Rattle.rules.specs.Incompatible.{Deed, defines, repeats, First, first_of, was_free, free, defined, may_repeat, repeated, again}
 use Rattle.rules.specs.declared.Allowance.{Allowance}
 use Rattle.answer.specs.declared.Sheet.{Sheet}
-use Rattle.answer.specs.Page.{Page, write, writes, page}
-use Rattle.answer.proofs.Laws.{writes_none, writes_one, writes_append, writes_length}
+use Rattle.answer.specs.Page.{writes, page, Added}
+use Rattle.answer.proofs.Laws.{writes_none, writes_append}
+use Rattle.answer.proofs.Flat.{added_none, added_as}
 use Rattle.incompatible.specs.declared.assigns.Defined.{Defined}
-use Rattle.incompatible.specs.Ledger.{Ledger, told_by, ledger_by, free_now, spend, told, knows, tells, after, first_by, ledger, Does}
+use Rattle.incompatible.specs.declared.assigns.Definition.{Definition}
+use Rattle.incompatible.specs.Ledger.{Ledger, told_by, ledger_by, free_now, spend, told, knows, tells, after, first_by, spent_by, ledger, Does}
 
 -- ---- the rule
 
@@ -62,7 +64,7 @@ unfolding after
 after_append [] ys k = refl
 after_append (x ∷ xs) ys k = after_append xs ys (knows x k)
 
--- ---- the tables
+-- ---- the table
 
 at_set : {A : Type 0} (xs : List A) (v x : ℕ) (a d : A) → v < length xs → get_or (set xs v a) x d ≡ elim (eqb x v) [ true ↦ a | false ↦ get_or xs x d ]
 at_set xs v x a d h = go (ℕ_discrete x v)
@@ -71,9 +73,9 @@ at_set xs v x a d h = go (ℕ_discrete x v)
     go (yes e) = rw (eq-eqb x v e, e) (get_or-set_same xs v a d h)
     go (no n) = rw (ne_eqb x v n) (get_or-set_other xs v x a d n)
 
-pub does_none : (t o : List ℕ) (d : Defined) → Does t o d [] o d
+pub does_none : (t : List ℕ) (d : Defined) (s : Sheet) → Does t d s [] d s
 unfolding tells after
-does_none t o d = record { wrote = sym (writes_none (page o d.sheet)); then = refl }
+does_none t d s = record { wrote = added_none s; then = refl }
 
 -- two ledgers of one allowance
 ledger_same : (k l : Ledger) → k.allowed ≡ l.allowed → ((x : ℕ) → k.first x ≡ l.first x) → ((x : ℕ) → k.spent x ≡ l.spent x) → k ≡ l
@@ -81,107 +83,116 @@ ledger_same k l e p q =
     ap (λ (a : Allowance). record { allowed = a; first = k.first; spent = k.spent }) e
     ∙ ap₂ (λ (f : ℕ → Option First) (g : ℕ → Bool). record { allowed = l.allowed; first = f; spent = g }) (fun_ext p) (fun_ext q)
 
-module _ (t o : List ℕ) (d : Defined) (i v : ℕ) (ev : v ≡ value_at t i) where
-  -- a name that was not defined
-  pub ident_new : (r : Defined) → v < length d.first → get_or d.first v 0 ≡ 0
-      → r.allowed ≡ d.allowed → r.first ≡ set d.first v (i + 1) → r.exported ≡ d.exported → r.sheet ≡ d.sheet
-      → Does t o d (defines (eqb (kind_at t i) 47) (node_head t i) ∷ []) o r
-  unfolding tells after node_head node_spot
-  ident_new r h z e a b c =
-      let y : get_or d.first (value_at t i) 0 ≡ 0 = rw ev at z in
-      record {
-        wrote = rw (c, y) (sym (writes_none (page o d.sheet)));
-        then = rw (a ∙ ap (λ (u : ℕ). set d.first u (i + 1)) ev, b, y) (ledger_same _ _ e (λ x. rw (at_set d.first (value_at t i) x (i + 1) 0 (rw ev at h)) (go x (eqb x (value_at t i)))) (λ x. refl));
-      }
-    where
-      go : (x : ℕ) (b : Bool) → first_by t (elim b [ true ↦ i + 1 | false ↦ get_or d.first x 0 ])
-          ≡ elim b [ true ↦ some (record { head = node_head t i; loaded = eqb (kind_at t i) 47 }) | false ↦ first_by t (get_or d.first x 0) ]
-      go x true = rw add-one
-      go x false = refl
+-- node i names value v
+module _ (t : List ℕ) (d : Defined) (s : Sheet) (i v : ℕ) (ev : v ≡ value_at t i) where
+  -- d' is d with w of that name
+  module _ (d' : Defined) (w : Definition) (h : v < length d.names) (e : d'.allowed ≡ d.allowed) (a : d'.names ≡ set d.names v (Some w)) where
+    each_name : (x : ℕ) → get_or d'.names x None ≡ elim (eqb x (value_at t i)) as (λ b. Maybe Definition) [ true ↦ Some w | false ↦ get_or d.names x None ]
+    each_name x = rw (a, ev) (at_set d.names (value_at t i) x (Some w) None (rw ev at h))
+
+    changed : (l : Ledger) → d.allowed ≡ l.allowed
+        → ((x : ℕ) (b : Bool) → eqb x (value_at t i) ≡ b → first_by t (elim b [ true ↦ Some w | false ↦ get_or d.names x None ]) ≡ l.first x)
+        → ((x : ℕ) (b : Bool) → eqb x (value_at t i) ≡ b → spent_by (elim b [ true ↦ Some w | false ↦ get_or d.names x None ]) ≡ l.spent x)
+        → ledger t d' ≡ l
+    changed l m p q =
+        ledger_same (ledger t d') l (e ∙ m) (λ x. rw (each_name x) (p x (eqb x (value_at t i)) refl)) (λ x. rw (each_name x) (q x (eqb x (value_at t i)) refl))
+
+    -- a name that was not defined
+    pub ident_new : get_or d.names v None ≡ None → w.node ≡ i → w.exported ≡ false
+        → Does t d s (defines (eqb (kind_at t i) 47) (node_head t i) ∷ []) d' s
+    unfolding tells after node_head node_spot
+    ident_new z n x =
+        let y : get_or d.names (value_at t i) None ≡ None = rw ev at z in
+        record { wrote = rw y (added_none s); then = rw y (changed (ledger_by none (eqb (kind_at t i) 47) (node_head t i) (ledger t d)) refl (first y) (spent y)) }
+      where
+        first : get_or d.names (value_at t i) None ≡ None → (x : ℕ) (b : Bool) → eqb x (value_at t i) ≡ b
+            → first_by t (elim b [ true ↦ Some w | false ↦ get_or d.names x None ])
+            ≡ elim (eqb x (value_at t i)) [ true ↦ some (record { head = node_head t i; loaded = eqb (kind_at t i) 47 }) | false ↦ first_by t (get_or d.names x None) ]
+        first y x true u = rw (u, n)
+        first y x false u = rw u
+
+        spent : get_or d.names (value_at t i) None ≡ None → (u : ℕ) (b : Bool) → eqb u (value_at t i) ≡ b
+            → spent_by (elim b [ true ↦ Some w | false ↦ get_or d.names u None ]) ≡ spent_by (get_or d.names u None)
+        spent y u true q = rw (eqb-true u (value_at t i) q, y) x
+        spent y u false q = refl
+
+    -- x = x that is free
+    pub repeat_free : (f : Definition) → get_or d.names v None ≡ Some f → true ≡ eqb (kind_at t f.node) 47 && free d.allowed f.exported → w.node ≡ f.node → w.exported ≡ true
+        → Does t d s (repeats (node_head t i) ∷ []) d' s
+    unfolding tells after node_head node_spot
+    repeat_free f z g n x =
+        let y : get_or d.names (value_at t i) None ≡ Some f = rw ev at z in
+        record {
+          wrote = rw (y, sym g, told) (added_none s);
+          then = rw (y, sym g, knows) (changed (spend (ledger t d) (value_at t i)) refl (first y) (spent y));
+        }
+      where
+        first : get_or d.names (value_at t i) None ≡ Some f → (u : ℕ) (b : Bool) → eqb u (value_at t i) ≡ b
+            → first_by t (elim b [ true ↦ Some w | false ↦ get_or d.names u None ]) ≡ first_by t (get_or d.names u None)
+        first y u true q = rw (eqb-true u (value_at t i) q, y, n)
+        first y u false q = refl
+
+        spent : get_or d.names (value_at t i) None ≡ Some f → (u : ℕ) (b : Bool) → eqb u (value_at t i) ≡ b
+            → spent_by (elim b [ true ↦ Some w | false ↦ get_or d.names u None ]) ≡ eqb u (value_at t i) || spent_by (get_or d.names u None)
+        spent y u true q = rw q x
+        spent y u false q = rw q
 
   -- a name that was
-  pub ident_again : (old : ℕ) (o' : List ℕ) (r : Defined) → old ≡ get_or d.first v 0 → (old ≡ 0 → ⊥)
-      → r.allowed ≡ d.allowed → r.first ≡ d.first → r.exported ≡ d.exported
-      → page o' r.sheet ≡ write (page o d.sheet) (again (node_head t (old - 1)) (node_head t i))
-      → Does t o d (defines (eqb (kind_at t i) 47) (node_head t i) ∷ []) o' r
+  pub ident_again : (f : Definition) {s' : Sheet} → get_or d.names v None ≡ Some f → Added s s' (again (node_head t f.node) (node_head t i) ∷ [])
+      → Does t d s (defines (eqb (kind_at t i) 47) (node_head t i) ∷ []) d s'
   unfolding tells after node_head node_spot
-  ident_again old o' r z n e a b w =
-      let y : get_or d.first (value_at t i) 0 ≡ suc (old - 1) = sym (rw ev at z) ∙ omega arith in
-      record { wrote = rw y (w ∙ sym (writes_one (page o d.sheet) _)); then = rw (e, a, b, y) }
-
-  -- x = x that is free
-  pub repeat_free : (r : Defined) → v < length d.exported → true ≡ free_now (ledger t d) v
-      → r.allowed ≡ d.allowed → r.first ≡ d.first → r.exported ≡ set d.exported v true → r.sheet ≡ d.sheet
-      → Does t o d (repeats (node_head t i) ∷ []) o r
-  unfolding tells after node_head node_spot
-  repeat_free r h f e a b c =
-      let y : free_now (ledger t d) (value_at t i) ≡ true = sym (rw ev at f) in
-      record {
-        wrote = rw (c, y, told) (sym (writes_none (page o d.sheet)));
-        then = rw (a, b ∙ ap (λ (u : ℕ). set d.exported u true) ev, y, knows) (ledger_same _ _ e (λ x. refl) (λ x. rw (at_set d.exported (value_at t i) x true false (rw ev at h)) (go (eqb x (value_at t i)) (get_or d.exported x false))));
-      }
-    where
-      go : (b c : Bool) → elim b as (λ z. Bool) [ true ↦ true | false ↦ c ] ≡ b || c
-      go true c = refl
-      go false c = refl
+  ident_again f z w =
+      let y : get_or d.names (value_at t i) None ≡ Some f = rw ev at z in record { wrote = rw y w; then = rw y }
 
   -- x = x that is not
-  pub repeat_not : (o' : List ℕ) (r : Defined) → kind_at t i ≡ 40 → false ≡ free_now (ledger t d) v
-      → Does t o d (defines (eqb (kind_at t i) 47) (node_head t i) ∷ []) o' r → Does t o d (repeats (node_head t i) ∷ []) o' r
+  pub repeat_not : {d' : Defined} {s' : Sheet} → kind_at t i ≡ 40 → free_now (ledger t d) v ≡ false
+      → Does t d s (defines (eqb (kind_at t i) 47) (node_head t i) ∷ []) d' s' → Does t d s (repeats (node_head t i) ∷ []) d' s'
   unfolding tells after node_head node_spot
-  repeat_not o' r k f w =
-      let y : free_now (ledger t d) (value_at t i) ≡ false = sym (rw ev at f) in
+  repeat_not k f w =
+      let y : free_now (ledger t d) (value_at t i) ≡ false = rw ev at f in
       let z : eqb (kind_at t i) 47 ≡ false = rw k in
       record { wrote = rw (y, told) w.wrote; then = rw (y, knows) (rw z at w.then) }
 
 -- ---- whether x = x is free
 
-module _ (t : List ℕ) (d : Defined) (v old : ℕ) (eo : old ≡ get_or d.first v 0) where
-  pub free_none : old ≡ 0 → false ≡ free_now (ledger t d) v
-  free_none z = let y : get_or d.first v 0 ≡ 0 = sym eo ∙ z in rw y
+module _ (t : List ℕ) (d : Defined) (v : ℕ) where
+  pub free_none : get_or d.names v None ≡ None → free_now (ledger t d) v ≡ false
+  free_none z = rw z
 
-  module _ (n : old ≡ 0 → ⊥) where
-    some_first : get_or d.first v 0 ≡ suc (old - 1)
-    some_first = sym eo ∙ omega arith
-
-    pub free_other : (kind_at t (old - 1) ≡ 47 → ⊥) → false ≡ free_now (ledger t d) v
-    free_other k = rw (some_first, ne_eqb (kind_at t (old - 1)) 47 k)
-
-    pub free_loaded : kind_at t (old - 1) ≡ 47 → free d.allowed (get_or d.exported v false) ≡ free_now (ledger t d) v
-    free_loaded k = rw (some_first, k)
+  pub free_some : (f : Definition) → get_or d.names v None ≡ Some f → false ≡ eqb (kind_at t f.node) 47 && free d.allowed f.exported → free_now (ledger t d) v ≡ false
+  free_some f z g = rw z (sym g)
 
 -- ---- a loop: what is told so far, with what is still left to tell, comes to the whole
 
-pub record Telling (t o₀ : List ℕ) (d₀ : Defined) (all : List Deed) (o : List ℕ) (d : Defined) (left : List Deed) : Type 0 where
-  pub long : length o ≡ length o₀
-  pub yet : writes (page o d.sheet) (tells left (ledger t d)) ≡ writes (page o₀ d₀.sheet) (tells all (ledger t d₀))
+pub record Telling (t : List ℕ) (d₀ : Defined) (s₀ : Sheet) (all : List Deed) (d : Defined) (s : Sheet) (left : List Deed) : Type 0 where
+  pub yet : writes (page s) (tells left (ledger t d)) ≡ writes (page s₀) (tells all (ledger t d₀))
+  pub same_room : s.out.ghost_name ≡ s₀.out.ghost_name
   pub then : after left (ledger t d) ≡ after all (ledger t d₀)
 
-pub telling : (t o : List ℕ) (d : Defined) (all : List Deed) → Telling t o d all o d all
-telling t o d all = record { long = refl; yet = refl; then = refl }
+pub telling : (t : List ℕ) (d : Defined) (s : Sheet) (all : List Deed) → Telling t d s all d s all
+telling t d s all = record { yet = refl; same_room = refl; then = refl }
 
-pub telling_on : {t o₀ : List ℕ} {d₀ : Defined} {all : List Deed} {o : List ℕ} {d : Defined} {zs : List Deed} → Telling t o₀ d₀ all o d zs
-    → (xs ys : List Deed) (o' : List ℕ) (d' : Defined) → Does t o d xs o' d' → zs ≡ xs ++ ys → Telling t o₀ d₀ all o' d' ys
-telling_on {t} {o₀} {d₀} {all} {o} {d} {zs} g xs ys o' d' w e =
+pub telling_on : {t : List ℕ} {d₀ d d' : Defined} {s₀ s s' : Sheet} {all zs : List Deed} → Telling t d₀ s₀ all d s zs
+    → (xs ys : List Deed) → Does t d s xs d' s' → zs ≡ xs ++ ys → Telling t d₀ s₀ all d' s' ys
+telling_on {t = t} {d = d} {s = s} g xs ys w e =
     record {
-      long = ap (λ (p : Page). length p.out) w.wrote ∙ writes_length (page o d.sheet) _ ∙ g.long;
       yet =
-          rw (w.wrote, w.then)
-          (sym (writes_append (page o d.sheet) (tells xs (ledger t d)) (tells ys (after xs (ledger t d))))
-          ∙ ap (writes (page o d.sheet)) (sym (tells_append xs ys (ledger t d)) ∙ ap (λ (l : List Deed). tells l (ledger t d)) (sym e)))
+          rw (w.wrote.so, w.then)
+          (sym (writes_append (page s) (tells xs (ledger t d)) (tells ys (after xs (ledger t d))))
+          ∙ ap (writes (page s)) (sym (tells_append xs ys (ledger t d)) ∙ ap (λ (l : List Deed). tells l (ledger t d)) (sym e)))
           ∙ g.yet;
+      same_room = w.wrote.same_room ∙ g.same_room;
       then = rw w.then (sym (after_append xs ys (ledger t d)) ∙ ap (λ (l : List Deed). after l (ledger t d)) (sym e)) ∙ g.then;
     }
 
-pub telling_end : {t o₀ : List ℕ} {d₀ : Defined} {all : List Deed} {o : List ℕ} {d : Defined} {zs : List Deed} → Telling t o₀ d₀ all o d zs
-    → zs ≡ [] → Does t o₀ d₀ all o d
+pub telling_end : {t : List ℕ} {d₀ d : Defined} {s₀ s : Sheet} {all zs : List Deed} → Telling t d₀ s₀ all d s zs → zs ≡ [] → Does t d₀ s₀ all d s
 unfolding tells after
-telling_end {t} {o₀} {d₀} {all} {o} {d} g e =
-    record { wrote = sym (writes_none (page o d.sheet)) ∙ (rw e at g.yet); then = rw e at g.then }
+telling_end {s = s} g e =
+    record { wrote = record { so = sym (writes_none (page s)) ∙ (rw e at g.yet); same_room = g.same_room }; then = rw e at g.then }
 
 -- ---- nothing defined yet
 
-pub get_d_beyond : {A : Type 0} (xs : List A) (i : ℕ) (d : A) → length xs ≤ i → get_or xs i d ≡ d
+get_d_beyond : {A : Type 0} (xs : List A) (i : ℕ) (d : A) → length xs ≤ i → get_or xs i d ≡ d
 get_d_beyond [] i d h = refl
 get_d_beyond (x ∷ xs) i d h = let q : i ≡ suc (i - 1) = omega arith in rw q (get_d_beyond xs (i - 1) d (omega arith))
 
@@ -192,13 +203,12 @@ at_none n x a = go (dec_lt x n)
     go (yes h) = get_or-replicate n x a a h
     go (no h) = get_d_beyond (replicate n a) x a (rw length-replicate (omega arith))
 
-nothing_known : (t : List ℕ) (allowed : Allowance) (d : Defined) → d.allowed ≡ allowed → d.first ≡ replicate 512 0
-    → d.exported ≡ replicate 512 false → ledger t d ≡ ledger_of allowed [] []
-nothing_known t allowed d e a b =
-    ledger_same (ledger t d) (ledger_of allowed [] []) e (λ x. rw (a, at_none {A = ℕ} 512 x 0)) (λ x. rw (b, at_none 512 x false))
+nothing_known : (t : List ℕ) (allowed : Allowance) (d : Defined) → d.allowed ≡ allowed → d.names ≡ replicate 512 None → ledger t d ≡ ledger_of allowed [] []
+nothing_known t allowed d e a =
+    let z : (x : ℕ) → get_or d.names x None ≡ None = λ x. rw (a, at_none {A = Maybe Definition} 512 x None) in
+    ledger_same (ledger t d) (ledger_of allowed [] []) e (λ x. rw (z x)) (λ x. rw (z x))
 
-pub all_judged : (t o : List ℕ) (allowed : Allowance) (s : Sheet) (es : List Deed) (d : Defined) {o' : List ℕ} {r : Defined}
-    → d.allowed ≡ allowed → d.first ≡ replicate 512 0 → d.exported ≡ replicate 512 false → d.sheet ≡ s → Does t o d es o' r
-    → page o' r.sheet ≡ writes (page o s) (repeated allowed es [] [])
-all_judged t o allowed s es d e a b c w =
-    w.wrote ∙ rw (c, nothing_known t allowed d e a b) (ap (writes (page o s)) (sym (judge_told allowed es [] [])))
+pub all_judged : (t : List ℕ) (allowed : Allowance) (es : List Deed) (d : Defined) {d' : Defined} {s s' : Sheet}
+    → d.allowed ≡ allowed → d.names ≡ replicate 512 None → Does t d s es d' s' → Added s s' (repeated allowed es [] [])
+all_judged t allowed es d e a w =
+    added_as _ (judge_told allowed es [] [] ∙ ap (tells es) (sym (nothing_known t allowed d e a))) w.wrote

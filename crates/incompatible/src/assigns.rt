@@ -1,325 +1,239 @@
 // 15: a name that is assigned twice at the top level.
-ghost use Rattle.std.specs.Prelude.{◌≡◌, [], ◌∷◌, true, false, ◌||◌, ◌+◌, ◌≤◌, ◌<◌, eqb, get_or, set, replicate};
+ghost use Rattle.std.specs.Prelude.{◌≡◌, [], ◌∷◌, ◌&&◌, ◌||◌, ◌+◌, ◌<◌, ◌≤◌, None, eqb, replicate};
 ghost use Rattle.tree.specs.Bytes.{kind_at, size_at, value_at, pick};
 ghost use Rattle.tree.specs.Forest.{node_head, forest_of};
 ghost use Rattle.tree.specs.code.Part.{Part, Subtree};
-ghost use Rattle.rules.specs.Incompatible.{again, repeated, defined_names, deeds, self_set, repeats, defines};
-ghost use Rattle.answer.specs.Page.{write, writes, page};
-ghost use Rattle.incompatible.specs.Ground.{Low};
-ghost use Rattle.incompatible.specs.Ledger.{ledger, free_now, named_one, below_one, is_several, goes_in, top_of, deeds_one, top_assign, Does};
+ghost use Rattle.rules.specs.Incompatible.{again, repeated, defined_names, deeds, repeats, defines, free};
+ghost use Rattle.answer.specs.Page.{Added};
+ghost use Rattle.incompatible.specs.Ground.{Low, inside};
+ghost use Rattle.incompatible.specs.Ledger.{named_one, below_one, is_several, goes_in, top_of, deeds_one, top_assign, Does, SelfSet};
 
-use answer::{Note, Place, Sheet, put};
-use rules::Allowance;
-use tree::bytes::{kind_at, role_at, size_at, value_at, widen};
+use answer::{Note, Place, Sheet};
+use rules::{Allowance, Code};
+use tree::bytes::{kind_at, role_at, size_at, value_at};
 use tree::children::child_of;
+use tree::kinds::{Kind, Role};
 
-// By value number: the node after the one that first defined the name (0: none), and whether x = x was already free; and how often it
-// is free, last, since the pass is slower with it before the tables (docs/SPEED.md).
+// How a name was first defined: at which node, and whether x = x was already free.
+#[derive(Clone, Copy)]
+pub(crate) struct Definition {
+    node: u16,
+    exported: bool,
+}
+
+// How each name was first defined, by value number, and how often x = x is free.
 #[derive(Clone, Copy)]
 pub(crate) struct Defined {
-    first: [u16; 512],
-    exported: [bool; 512],
-    sheet: Sheet,
+    names: [Option<Definition>; 512],
     allowed: Allowance,
 }
 
-fn first_of(first: &[u16], v: usize) -> usize
-    ensures { result ≡ get_or first.now v 0 }
+fn put_again(t: &[u8], old: usize, i: usize, sheet: &mut Sheet<'_>)
+    ensures { Added sheet.old sheet.new (again (node_head t.now old) (node_head t.now i) ∷ []) }
 {
-    if v < first.len() {
-        return widen(first[v]);
-    }
-    0
-}
-
-fn is_exported(exported: &[bool], v: usize) -> bool
-    ensures { result ≡ get_or exported.now v false }
-{
-    if v < exported.len() {
-        return exported[v];
-    }
-    false
-}
-
-fn define(d: Defined, v: usize, i: usize) -> Defined
-    requires { (v < 512) × (i < 1024) }
-    ensures { (result.first ≡ set d.first v (i + 1)) × (result.exported ≡ d.exported) × (result.sheet ≡ d.sheet) × (result.allowed ≡ d.allowed) }
-{
-    let allowed = d.allowed;
-    let mut first = d.first;
-    let exported = d.exported;
-    let sheet = d.sheet;
-    first[v] = (i + 1) as u16;
-    Defined {
-        first,
-        exported,
-        sheet,
-        allowed,
-    }
-}
-
-fn export(d: Defined, v: usize) -> Defined
-    requires { v < 512 }
-    ensures { (result.first ≡ d.first) × (result.exported ≡ set d.exported v true) × (result.sheet ≡ d.sheet) × (result.allowed ≡ d.allowed) }
-{
-    let allowed = d.allowed;
-    let first = d.first;
-    let mut exported = d.exported;
-    let sheet = d.sheet;
-    exported[v] = true;
-    Defined {
-        first,
-        exported,
-        sheet,
-        allowed,
-    }
-}
-
-fn put_again(t: &[u8], old: usize, i: usize, out: &mut [u32], s: Sheet) -> Sheet
-    ensures { page out.new result ≡ write (page out.old s) (again (node_head t.now old) (node_head t.now i)) }
-{
-    put(
+    sheet.put(
         t,
-        out,
-        s,
         Note {
-            code: 15,
+            code: Code::DuplicateTopLevelAssign as u32,
             at: i,
             value: Place::Node(i),
             second: Place::Node(old),
             third: Place::Nowhere,
         },
-    )
+    );
 }
 
-// The name at node i is defined, or defined again.
-fn ident(t: &[u8], i: usize, out: &mut [u32], d: Defined) -> Defined
-    requires { (value_at t.now i < 512) × (i < 1024) }
-    ensures { Does t.now out.old d (defines (eqb (kind_at t.now i) 47) (node_head t.now i) ∷ []) out.new result }
+fn binds(kind: usize) -> bool
+    ensures { result ≡ (eqb kind 40 || (eqb kind 43 || eqb kind 47)) }
 {
-    let v = value_at(t, i);
-    let allowed = d.allowed;
-    let first = d.first;
-    let exported = d.exported;
-    let sheet = d.sheet;
-    let old = first_of(&first, v);
-    if old == 0 {
-        return define(d, v, i);
-    }
-    let r = put_again(t, old - 1, i, out, sheet);
-    Defined {
-        first,
-        exported,
-        sheet: r,
-        allowed,
-    }
-}
-
-// x = x is free where the first definition of x is a load, as often as is allowed.
-fn may_repeat(t: &[u8], d: Defined, v: usize) -> bool
-    ensures { result ≡ free_now (ledger t.now d) v }
-{
-    let allowed = d.allowed;
-    let first = d.first;
-    let exported = d.exported;
-    let old = first_of(&first, v);
-    if old == 0 {
-        return false;
-    }
-    if kind_at(t, old - 1) != 47 {
-        return false;
-    }
-    allowed.free(is_exported(&exported, v))
-}
-
-fn binds(k: usize) -> bool
-    ensures { result ≡ (eqb k 40 || (eqb k 43 || eqb k 47)) }
-{
-    if k == 40 {
-        return true;
-    }
-    if k == 43 {
-        return true;
-    }
-    k == 47
+    kind == Kind::Name as usize
+        || kind == Kind::NamedParameter as usize
+        || kind == Kind::LoadedName as usize
 }
 
 // Below several: role 0 only.
-fn below_at(t: &[u8], j: usize, out: &mut [u32], d: Defined) -> Defined
-    requires { Low t.now (j + 1) × (j < 1024) }
-    ensures { Does t.now out.old d (below_one (node_head t.now j)) out.new result }
-{
-    if role_at(t, j) != 0 {
-        return d;
-    }
-    if binds(kind_at(t, j)) {
-        return ident(t, j, out, d);
-    }
-    d
-}
-
 fn below_next(t: &[u8], j: usize) -> usize
     requires { j < 1024 }
     ensures { result ≡ pick (is_several (node_head t.now j)) (j + 1) (j + size_at t.now j) }
 {
-    let after = j + size_at(t, j);
-    if role_at(t, j) != 0 {
-        return after;
+    if role_at(t, j) == Role::Item as usize && kind_at(t, j) == Kind::Several as usize {
+        return j + 1;
     }
-    if kind_at(t, j) != 41 {
-        return after;
-    }
-    j + 1
+    j + size_at(t, j)
 }
 
-fn below(t: &[u8], i: usize, e: usize, out: &mut [u32], d: Defined) -> Defined
-    requires { Part t.now i e × Low t.now e }
-    ensures { Does t.now out.old d (defined_names 0 (forest_of t.now i e)) out.new result }
-{
-    let mut r = d;
-    let mut j = i;
-    while j < e {
-        r = below_at(t, j, out, r);
-        j = below_next(t, j);
-    }
-    r
-}
-
-fn lvalue(t: &[u8], role: usize, j: usize, out: &mut [u32], d: Defined) -> Defined
-    requires { Subtree t.now j × Low t.now (j + size_at t.now j) }
-    ensures { Does t.now out.old d (named_one role (node_head t.now j) (forest_of t.now (j + 1) (j + size_at t.now j))) out.new result }
-{
-    if role_at(t, j) != role {
-        return d;
-    }
-    let k = kind_at(t, j);
-    if k == 41 {
-        return below(t, j + 1, j + size_at(t, j), out, d);
-    }
-    if binds(k) {
-        return ident(t, j, out, d);
-    }
-    d
-}
-
-// The names of a role among the siblings from i up to e, also those of several.
-fn visit_lvalue(t: &[u8], role: usize, i: usize, e: usize, out: &mut [u32], d: Defined) -> Defined
-    requires { Part t.now i e × Low t.now e }
-    ensures { Does t.now out.old d (defined_names role (forest_of t.now i e)) out.new result }
-{
-    let mut r = d;
-    let mut j = i;
-    while j < e {
-        r = lvalue(t, role, j, out, r);
-        j += size_at(t, j);
-    }
-    r
-}
-
-// x = x: the target a name, the value the identifier of that name.
-fn is_self_set(t: &[u8], i: usize, e: usize) -> bool
+// The target of x = x: a name, and the value the identifier of that name.
+fn self_set(t: &[u8], i: usize, e: usize) -> Option<usize>
     requires { Part t.now i e × (i ≤ e) }
-    ensures { result ≡ self_set (forest_of t.now i e) }
+    ensures { SelfSet t.now i e result }
 {
-    let x = child_of(t, 5, i, e);
-    let y = child_of(t, 4, i, e);
-    if e <= x {
-        return false;
+    let x = child_of(t, Role::Target as usize, i, e)?;
+    let y = child_of(t, Role::Expression as usize, i, e)?;
+    if kind_at(t, x) == Kind::Name as usize
+        && kind_at(t, y) == Kind::Identifier as usize
+        && value_at(t, x) == value_at(t, y)
+    {
+        return Some(x);
     }
-    if e <= y {
-        return false;
-    }
-    if kind_at(t, x) != 40 {
-        return false;
-    }
-    if kind_at(t, y) != 20 {
-        return false;
-    }
-    value_at(t, x) == value_at(t, y)
-}
-
-fn repeat(t: &[u8], x: usize, out: &mut [u32], d: Defined) -> Defined
-    requires { (value_at t.now x < 512) × (x < 1024) × (kind_at t.now x ≡ 40) }
-    ensures { Does t.now out.old d (repeats (node_head t.now x) ∷ []) out.new result }
-{
-    let v = value_at(t, x);
-    if may_repeat(t, d, v) {
-        return export(d, v);
-    }
-    ident(t, x, out, d)
-}
-
-fn assign(t: &[u8], i: usize, e: usize, out: &mut [u32], d: Defined) -> Defined
-    requires { Part t.now i e × (i ≤ e) × Low t.now e }
-    ensures { Does t.now out.old d (top_assign (forest_of t.now i e)) out.new result }
-{
-    if is_self_set(t, i, e) {
-        return repeat(t, child_of(t, 5, i, e), out, d);
-    }
-    visit_lvalue(t, 5, i, e, out, d)
-}
-
-fn stmt(t: &[u8], i: usize, out: &mut [u32], d: Defined) -> Defined
-    requires { Subtree t.now i × Low t.now (i + size_at t.now i) }
-    ensures { Does t.now out.old d (deeds_one (node_head t.now i) (forest_of t.now (i + 1) (i + size_at t.now i))) out.new result }
-{
-    let k = kind_at(t, i);
-    let e = i + size_at(t, i);
-    if k == 6 {
-        return assign(t, i + 1, e, out, d);
-    }
-    if k == 7 {
-        return visit_lvalue(t, 5, i + 1, e, out, d);
-    }
-    if k == 12 {
-        return visit_lvalue(t, 6, i + 1, e, out, d);
-    }
-    if k == 13 {
-        return visit_lvalue(t, 0, i + 1, e, out, d);
-    }
-    d
+    None
 }
 
 // Lists, if, if-else and for are gone into; the insides of any other node are not.
+fn is_gone_into(kind: usize) -> bool
+    ensures { result ≡ goes_in (top_of kind) }
+{
+    Kind::Statements as usize <= kind && kind <= Kind::For as usize
+}
+
 fn next(t: &[u8], i: usize) -> usize
     requires { i < 1024 }
     ensures { result ≡ pick (goes_in (top_of (kind_at t.now i))) (i + 1) (i + size_at t.now i) }
 {
-    let k = kind_at(t, i);
-    let after = i + size_at(t, i);
-    if k < 8 {
-        return after;
+    if is_gone_into(kind_at(t, i)) {
+        return i + 1;
     }
-    if 11 < k {
-        return after;
-    }
-    i + 1
+    i + size_at(t, i)
 }
 
-// 15: every statement of the top level, under lists, if, if-else and for too.
-fn stmts(t: &[u8], n: usize, out: &mut [u32], d: Defined) -> Defined
-    requires { Part t.now 0 n × Low t.now n }
-    ensures { Does t.now out.old d (deeds (forest_of t.now 0 n)) out.new result }
-{
-    let mut r = d;
-    let mut i = 0;
-    while i < n {
-        r = stmt(t, i, out, r);
-        i = next(t, i);
+impl Defined {
+    fn new(allowed: Allowance) -> Defined
+        ensures { (result.names ≡ replicate 512 None) × (result.allowed ≡ allowed) }
+    {
+        Defined {
+            names: [None; 512],
+            allowed,
+        }
     }
-    r
-}
 
-fn undefined(allowed: Allowance, s: Sheet) -> Defined
-    ensures { (result.first ≡ replicate 512 0) × (result.exported ≡ replicate 512 false) × (result.sheet ≡ s) × (result.allowed ≡ allowed) }
-{
-    let first = [0u16; 512];
-    let exported = [false; 512];
-    Defined {
-        first,
-        exported,
-        sheet: s,
-        allowed,
+    // x = x is free where the first definition of x is a load, as often as is allowed.
+    fn may_repeat(&self, t: &[u8], first: Definition) -> bool
+        ensures { result ≡ (eqb (kind_at t.now first.node) 47 && free self.now.allowed first.exported) }
+    {
+        kind_at(t, usize::from(first.node)) == Kind::LoadedName as usize
+            && self.allowed.free(first.exported)
+    }
+
+    // The name at node i is defined, or defined again.
+    fn ident(&mut self, t: &[u8], i: usize, sheet: &mut Sheet<'_>)
+        requires { (value_at t.now i < 512) × (i < 1024) }
+        ensures { Does t.now self.old sheet.old (defines (eqb (kind_at t.now i) 47) (node_head t.now i) ∷ []) self.new sheet.new }
+    {
+        let v = value_at(t, i);
+        match self.names[v] {
+            None => {
+                self.names[v] = Some(Definition {
+                    node: i as u16,
+                    exported: false,
+                });
+            }
+            Some(first) => put_again(t, usize::from(first.node), i, sheet),
+        }
+    }
+
+    fn repeat(&mut self, t: &[u8], x: usize, sheet: &mut Sheet<'_>)
+        requires { (value_at t.now x < 512) × (x < 1024) × (kind_at t.now x ≡ 40) }
+        ensures { Does t.now self.old sheet.old (repeats (node_head t.now x) ∷ []) self.new sheet.new }
+    {
+        let v = value_at(t, x);
+        match self.names[v] {
+            Some(first) if self.may_repeat(t, first) => {
+                self.names[v] = Some(Definition {
+                    node: first.node,
+                    exported: true,
+                });
+            }
+            _ => self.ident(t, x, sheet),
+        }
+    }
+
+    // Below several: role 0 only.
+    fn below_at(&mut self, t: &[u8], j: usize, sheet: &mut Sheet<'_>)
+        requires { Low t.now (j + 1) × (j < 1024) }
+        ensures { Does t.now self.old sheet.old (below_one (node_head t.now j)) self.new sheet.new }
+    {
+        if role_at(t, j) == Role::Item as usize && binds(kind_at(t, j)) {
+            self.ident(t, j, sheet);
+        }
+    }
+
+    fn below(&mut self, t: &[u8], i: usize, e: usize, sheet: &mut Sheet<'_>)
+        requires { Part t.now i e × Low t.now e }
+        ensures { Does t.now self.old sheet.old (defined_names 0 (forest_of t.now i e)) self.new sheet.new }
+    {
+        let mut j = i;
+        // Kept: where the walk goes on is read at j, and no range steps so (d).
+        while j < e {
+            self.below_at(t, j, sheet);
+            j = below_next(t, j);
+        }
+    }
+
+    fn lvalue(&mut self, t: &[u8], role: usize, j: usize, sheet: &mut Sheet<'_>)
+        requires { Subtree t.now j × Low t.now (j + size_at t.now j) }
+        ensures { Does t.now self.old sheet.old (named_one role (node_head t.now j) (inside t.now j)) self.new sheet.new }
+    {
+        if role_at(t, j) != role {
+            return;
+        }
+        let kind = kind_at(t, j);
+        if kind == Kind::Several as usize {
+            self.below(t, j + 1, j + size_at(t, j), sheet);
+        } else if binds(kind) {
+            self.ident(t, j, sheet);
+        }
+    }
+
+    // The names of a role among the siblings from i up to e, also those of several.
+    fn visit_lvalue(&mut self, t: &[u8], role: usize, i: usize, e: usize, sheet: &mut Sheet<'_>)
+        requires { Part t.now i e × Low t.now e }
+        ensures { Does t.now self.old sheet.old (defined_names role (forest_of t.now i e)) self.new sheet.new }
+    {
+        let mut j = i;
+        // Kept: each step is the size that is read at j, and no range steps so (d).
+        while j < e {
+            self.lvalue(t, role, j, sheet);
+            j += size_at(t, j);
+        }
+    }
+
+    fn assign(&mut self, t: &[u8], i: usize, e: usize, sheet: &mut Sheet<'_>)
+        requires { Part t.now i e × (i ≤ e) × Low t.now e }
+        ensures { Does t.now self.old sheet.old (top_assign (forest_of t.now i e)) self.new sheet.new }
+    {
+        match self_set(t, i, e) {
+            Some(x) => self.repeat(t, x, sheet),
+            None => self.visit_lvalue(t, Role::Target as usize, i, e, sheet),
+        }
+    }
+
+    fn stmt(&mut self, t: &[u8], i: usize, sheet: &mut Sheet<'_>)
+        requires { Subtree t.now i × Low t.now (i + size_at t.now i) }
+        ensures { Does t.now self.old sheet.old (deeds_one (node_head t.now i) (inside t.now i)) self.new sheet.new }
+    {
+        let kind = kind_at(t, i);
+        let e = i + size_at(t, i);
+        if kind == Kind::Assign as usize {
+            self.assign(t, i + 1, e, sheet);
+        } else if kind == Kind::AssignModify as usize {
+            self.visit_lvalue(t, Role::Target as usize, i + 1, e, sheet);
+        } else if kind == Kind::Def as usize {
+            self.visit_lvalue(t, Role::Name as usize, i + 1, e, sheet);
+        } else if kind == Kind::Load as usize {
+            self.visit_lvalue(t, Role::Item as usize, i + 1, e, sheet);
+        }
+    }
+
+    // 15: every statement of the top level, under lists, if, if-else and for too.
+    fn stmts(&mut self, t: &[u8], n: usize, sheet: &mut Sheet<'_>)
+        requires { Part t.now 0 n × Low t.now n }
+        ensures { Does t.now self.old sheet.old (deeds (forest_of t.now 0 n)) self.new sheet.new }
+    {
+        let mut i = 0;
+        // Kept: where the walk goes on is read at i, and no range steps so (d).
+        while i < n {
+            self.stmt(t, i, sheet);
+            i = next(t, i);
+        }
     }
 }
 
@@ -327,12 +241,11 @@ pub(crate) fn duplicate_top_level_assignment(
     t: &[u8],
     allowed: Allowance,
     n: usize,
-    out: &mut [u32],
-    s: Sheet,
-) -> Sheet
+    sheet: &mut Sheet<'_>,
+)
     requires { Part t.now 0 n × Low t.now n }
-    ensures { page out.new result ≡ writes (page out.old s) (repeated allowed (deeds (forest_of t.now 0 n)) [] []) }
+    ensures { Added sheet.old sheet.new (repeated allowed (deeds (forest_of t.now 0 n)) [] []) }
 {
-    let r = stmts(t, n, out, undefined(allowed, s));
-    r.sheet
+    let mut defined = Defined::new(allowed);
+    defined.stmts(t, n, sheet);
 }

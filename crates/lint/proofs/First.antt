@@ -10,19 +10,22 @@ use mathlib.Core.Logic.{◌⊎◌, inl, inr}
 use lib.ListN.{length, take, drop, length-append, take-append-drop}
 use lib.Seq.{length-take-le, drop-append-le}
 use borrow.Rule.Slice.PartMut.{put_mid}
+use Rattle.tree.specs.Judge.{judged}
 use Rattle.tree.specs.declared.Facts.{Facts}
+use Rattle.tree.specs.declared.Mode.{Mode}
 use Rattle.rules.specs.Record.{Rec, width, all_words}
-use Rattle.rules.specs.Joined.{no_tally}
+use Rattle.rules.specs.Names.{names_list}
+use Rattle.rules.specs.Joined.{no_tally, lint_list}
 use Rattle.rules.specs.Outcome.{work_words, cleared}
-use Rattle.rules.specs.Calls.{Done, DoneWithWork, done, done_with_work}
+use Rattle.rules.specs.Calls.{Done, DoneWithWork, done, done_with_work, lint_call}
 use Rattle.rules.specs.Afterwards.{Gives}
 use Rattle.rules.specs.declared.Refusal.{Refusal}
 use Rattle.rules.specs.declared.Refusal.TheVariants.{WorkRoom, AnswerRoom}
 use Rattle.rules.specs.Outcome.{Outcome}
 use Rattle.rules.specs.declared.Answer.{Answer}
 use Rattle.rules.proofs.Answered.{short_or_not, refused, listed, filled, answer_same, done_listed, work_lacking, work_unlisted, work_listed, with_work}
-use Rattle.lint.specs.Links.{about, refusal_with, JudgedValid, Fits}
-use Rattle.lint.proofs.Link.{end_inside, second_fits, both_done}
+use Rattle.lint.specs.Links.{about, refusal_with, after_names, JudgedValid, Fits}
+use Rattle.lint.proofs.Link.{few, end_inside, second_fits, both_done}
 
 no_words : (rs : List Rec) (p : List ℕ) → length rs ≡ 0 → all_words rs ++ drop (width * length rs) p ≡ p
 no_words [] p h = refl
@@ -167,3 +170,57 @@ module _ {t : List ℕ} {facts : Facts} (s : JudgedValid t facts) (ns rs : List 
           with_work (ns ++ rs) t w o y s.valid h r _ v
           (both_done ns rs o y all_fits (e ++ drop (width * k) o) n a as_whole counted b r g q u x)
           (ap (λ (d : DoneWithWork). d.work) left)
+
+-- ---- the joined call's own lists: rest, the records of the passes after names; k: the records that o can hold beside them
+module _ (mode : Mode) (t w o : List ℕ) {facts : Facts} (valid : judged t ≡ Ok facts) {rest : ℕ} (needed : rest ≡ length (after_names mode t))
+    {k : ℕ} (lent : k ≡ length o / width - rest) where
+  sound : JudgedValid t facts
+  sound = record { valid = valid }
+
+  beside : k ≡ length o / width - length (after_names mode t)
+  beside = lent ∙ ap (λ (r : ℕ). length o / width - r) needed
+
+  pub part_here : length (take (width * k) o) ≡ width * k
+  part_here = part_length sound (names_list t) (after_names mode t) w o k beside
+
+  module _ {a : Answer} {e v : List ℕ} (gives : Gives (done_with_work (names_list t) t w (take (width * k) o) no_tally) a e v) where
+    pub about_few : about a.outcome + rest ≤ 10240
+    about_few =
+        let n = about_names sound (names_list t) (after_names mode t) w o k beside a e v no_tally gives in
+        omega (arith, n, needed, few sound mode)
+
+    -- names has no list, or the room is too short for the records after its
+    pub refusal_here : (x : Answer) → ((n : ℕ) → a.outcome ≡ Ok n → length o / width < rest)
+        → x.outcome ≡ Err (refusal_with a.outcome rest) → x.tally ≡ no_tally → Gives (lint_call mode t w o) x (e ++ drop (width * k) o) v
+    unfolding lint_list
+    refusal_here x short p q =
+        refused_done sound (names_list t) (after_names mode t) w o k beside a e v no_tally gives x no_tally
+        (λ h f.
+        let l = all_listed sound (names_list t) (after_names mode t) w o k beside a e v no_tally gives h f in
+        let b = holds sound (names_list t) (after_names mode t) w o k beside f in
+        omega (arith, short _ l, b, needed))
+        (p ∙ ap (λ (r : ℕ). Err (refusal_with a.outcome r)) needed) q
+
+    module _ (n : ℕ) (i : a.outcome ≡ Ok n) (long : rest ≤ length o / width) where
+      within : length (after_names mode t) ≤ length o / width
+      within = rw needed at long
+
+      pub few_here : n + length (after_names mode t) ≤ 10240
+      few_here =
+          let c = counted sound (names_list t) (after_names mode t) w o k beside a e v no_tally gives n i within in
+          omega (arith, c, few sound mode)
+
+      pub inside_here : width * n ≤ length (e ++ drop (width * k) o)
+      inside_here = end_here sound (names_list t) (after_names mode t) w o k beside a e v no_tally gives n i within
+
+      pub fits_here : width * length (after_names mode t)
+          ≤ length (take (length (e ++ drop (width * k) o) - width * n) (drop (width * n) (e ++ drop (width * k) o)))
+      fits_here = (rest_fits sound (names_list t) (after_names mode t) w o k beside a e v no_tally gives n i within).enough
+
+      pub list_here : (b r : Answer) (g : List ℕ)
+          → ◌≡◌ {A = Done} (record { answer = b; room = g })
+          (done (after_names mode t) t (take (length (e ++ drop (width * k) o) - width * n) (drop (width * n) (e ++ drop (width * k) o))) a.tally)
+          → r.outcome ≡ Ok (n + about b.outcome) → r.tally ≡ b.tally
+          → Gives (lint_call mode t w o) r (put_mid (width * n) (length (e ++ drop (width * k) o) - width * n) (e ++ drop (width * k) o) g) v
+      unfolding lint_list
+      list_here = listed_done sound (names_list t) (after_names mode t) w o k beside a e v no_tally gives n i within

@@ -3,12 +3,13 @@
 use Rattle.std.specs.Prelude.{Ok}
 use Prim.Native.Nat.{ℕ, ◌+◌, ◌*◌, ◌-◌, ◌≤◌, ◌<◌}
 use native.Mathlib.Omega.{arith}
-use mathlib.Core.Path.{◌≡◌, sym, ap, ap₂, ◌∙◌}
+use mathlib.Core.Path.{◌≡◌, refl, sym, ap, ap₂, ◌∙◌}
 use mathlib.Core.Logic.{◌⊎◌, inl, inr}
-use mathlib.Core.List.{List, ◌++◌}
+use mathlib.Core.List.{List, ◌++◌, append_assoc}
 use lib.ListN.{length, take, drop, length-append, length-drop}
 use lib.Seq.{take_at, drop_at}
 use borrow.Rule.Slice.PartMut.{put_mid}
+use Rattle.tree.specs.Judge.{judged}
 use Rattle.tree.specs.declared.Facts.{Facts}
 use Rattle.tree.specs.declared.Mode.{Mode}
 use Rattle.rules.specs.Record.{Rec, width, all_words}
@@ -106,3 +107,68 @@ module _ {t : List ℕ} {facts : Facts} (xs ys : List Rec) (o y : List ℕ) (fit
         = tail_back (width * n) o₁ e ∙ ap₂ (λ (c d : List ℕ). c ++ d) before v ∙ sym (room_two xs ys o) in
         ap₂ (λ (c : Answer) (l : List ℕ). record { answer = c; room = l }) (answer_same r (u ∙ ap Ok k) z) p
         ∙ sym (whole (xs ++ ys) o y fits)
+
+-- ---- xs, then ys, then zs: o₁ is the room after xs, of which n records stand there; e, the part that ys was lent, afterwards
+
+module _ {t : List ℕ} {facts : Facts} (xs ys zs : List Rec) (o y : List ℕ) (fits : Fits t facts (xs ++ (ys ++ zs)) o) where
+  fits_all : Fits t facts ((xs ++ ys) ++ zs) o
+  fits_all = rw append_assoc fits
+
+  fits_two : Fits t facts (xs ++ ys) o
+  fits_two = first_fits (xs ++ ys) zs o y fits_all
+
+  module _ (o₁ : List ℕ) (n : ℕ) (a : Answer) (left : ◌≡◌ {A = Done} (record { answer = a; room = o₁ }) (done xs t o y)) (count : n ≡ length xs) where
+    pub end_one : width * n ≤ length o₁
+    end_one = end_inside xs ys o y fits_two o₁ n a left count
+
+    module _ (b : Answer) (e : List ℕ)
+        (q : ◌≡◌ {A = Done} (record { answer = b; room = e }) (done ys t (take (length o₁ - width * n) (drop (width * n) o₁)) a.tally))
+        (m : ℕ) (more : m ≡ n + about b.outcome) where
+      abbrev o₂ : List ℕ
+      o₂ = put_mid (width * n) (length o₁ - width * n) o₁ e
+
+      abbrev two : Answer
+      two = record { outcome = Ok m; tally = b.tally }
+
+      two_done : ◌≡◌ {A = Done} (record { answer = two; room = o₂ }) (done (xs ++ ys) t o y)
+      two_done = both_done xs ys o y fits_two o₁ n a left count b two e q (ap Ok more) refl
+
+      two_count : m ≡ length (xs ++ ys)
+      two_count =
+          let k : about b.outcome ≡ length ys = about_list fits.sound ys _ _ b e q in
+          let l = length_both xs ys o y fits_two in
+          omega (arith, k, l, count, more)
+
+      pub end_two : width * m ≤ length (put_mid (width * n) (length o₁ - width * n) o₁ e)
+      end_two = end_inside (xs ++ ys) zs o y fits_all o₂ m two two_done two_count
+
+      pub three_done : (c r : Answer) (g : List ℕ)
+          → ◌≡◌ {A = Done} (record { answer = c; room = g }) (done zs t (take (length o₂ - width * m) (drop (width * m) o₂)) b.tally)
+          → r.outcome ≡ Ok (m + about c.outcome) → r.tally ≡ c.tally
+          → ◌≡◌ {A = Done} (record { answer = r; room = put_mid (width * m) (length o₂ - width * m) o₂ g }) (done (xs ++ (ys ++ zs)) t o y)
+      three_done c r g z u w =
+          both_done (xs ++ ys) zs o y fits_all o₂ m two two_done two_count c r g z u w
+          ∙ ap (λ (l : List Rec). done l t o y) (append_assoc xs ys zs)
+
+-- ---- the joined call's own lists after those of names
+module _ (mode : Mode) (t : List ℕ) {facts : Facts} (valid : judged t ≡ Ok facts) where
+  sound : JudgedValid t facts
+  sound = record { valid = valid }
+
+  pub about_flow : (o y : List ℕ) {a : Answer} {o' : List ℕ} → ◌≡◌ {A = Done} (record { answer = a; room = o' }) (done (flow_list t) t o y)
+      → about a.outcome ≡ length (flow_list t)
+  about_flow o y {a} {o'} = about_list sound (flow_list t) o y a o'
+
+  pub about_incompatible : (o y : List ℕ) {a : Answer} {o' : List ℕ}
+      → ◌≡◌ {A = Done} (record { answer = a; room = o' }) (done (incompatible_list t) t o y) → about a.outcome ≡ length (incompatible_list t)
+  about_incompatible o y {a} {o'} = about_list sound (incompatible_list t) o y a o'
+
+  pub about_dubious : (o y : List ℕ) {a : Answer} {o' : List ℕ}
+      → ◌≡◌ {A = Done} (record { answer = a; room = o' }) (done (dubious_list mode t) t o y) → about a.outcome ≡ length (dubious_list mode t)
+  about_dubious o y {a} {o'} = about_list sound (dubious_list mode t) o y a o'
+
+  pub length_three : length (flow_list t) + length (incompatible_list t) + length (dubious_list mode t) ≡ length (after_names mode t)
+  length_three = let a = length_after_flow sound mode in let b = length_after_names sound mode in omega (arith, a, b)
+
+  pub few_three : length (after_names mode t) ≤ 10240
+  few_three = let f = few sound mode in omega arith

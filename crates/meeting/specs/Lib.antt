@@ -2,3 +2,4 @@
 pub mod Asked
 pub mod Words
 pub mod Meant
+pub mod Walked

@@ -8,14 +8,17 @@ ghost use Rattle.meeting.specs.Words.{bucket_of, emptied as emptiedWords, link_w
 use scope::table::{same_spot, store, word_at};
 use tree::bytes::{begin_at, end_at, value_at};
 use tree::kinds::Role;
+use walk::{Ask, Walk};
 
 mod kinds;
 mod walk;
 
+const BUCKETS: usize = 1024;
+
 // By bucket: 1 + its last place. By place: 1 + the place before it in its bucket; whether its node is met.
 const LAST: usize = 2048;
 
-const BEFORE: usize = 3072;
+const BEFORE: usize = LAST + BUCKETS;
 
 const MET: usize = 4096;
 
@@ -23,7 +26,7 @@ const MET: usize = 4096;
 fn bucket(t: &[u8], i: usize) -> usize
     ensures { (result ≡ bucket_of t.now i) × (result < 1024) }
 {
-    (31 * begin_at(t, i) + 7 * end_at(t, i) + value_at(t, i)) % 1024
+    (31 * begin_at(t, i) + 7 * end_at(t, i) + value_at(t, i)) % BUCKETS
 }
 
 fn emptied(w: &mut [u16])
@@ -93,5 +96,5 @@ pub fn first_met(t: &[u8], nodes: usize, w: &mut [u16], n: usize)
 {
     emptied(w);
     linked(t, w, n);
-    walk::visit(t, walk::Ask::Of(Role::Item), 0, nodes, n, w);
+    Walk { t, w, places: n }.visit(Ask::Of(Role::Item), 0, nodes);
 }

@@ -5,7 +5,7 @@ ghost use Rattle.tree.specs.code.Part.{Part, Subtree};
 ghost use Rattle.rules.specs.Order.{every};
 ghost use Rattle.meeting.specs.Asked.{visits, no_ask, asked_as, wanted, after as after_of, row, at, below as below_of, run, step as step_of};
 ghost use Rattle.meeting.specs.Meant.{meant, number};
-ghost use Rattle.meeting.specs.Words.{meets};
+ghost use Rattle.meeting.specs.Walked.{Walked};
 
 use crate::{kinds, meet};
 use tree::bytes::{kind_at, role_at, size_at};
@@ -117,52 +117,62 @@ impl Ask {
     }
 }
 
-// The siblings from node i up to e, by what is asked of them.
-#[cycle(visiting)]
-pub(crate) fn visit(t: &[u8], first: Ask, i: usize, e: usize, n: usize, w: &mut [u16])
-    requires { Part t.now i e }
-    ensures { w.new ≡ meets t.now n w.old (asked_as (meant first) (forest_of t.now i e)) }
-{
-    let mut ask = first;
-    let mut c = i;
-    // Kept: c goes by the sizes that it reads, and what is asked changes along the way.
-    while c < e {
-        step(t, ask, c, n, w);
-        ask = ask.after(role_at(t, c));
-        c += size_at(t, c);
-    }
+// The walk of a file t, with the places that stand in w.
+#[derive(Drop)]
+pub(crate) struct Walk<'a, 'b> {
+    pub(crate) t: &'a [u8],
+    pub(crate) w: &'b mut [u16],
+    pub(crate) places: usize,
 }
 
-// Node c, where it is asked for.
-#[cycle(visiting)]
-fn step(t: &[u8], ask: Ask, c: usize, n: usize, w: &mut [u16])
-    requires { Subtree t.now c }
-    ensures { w.new ≡ meets t.now n w.old (at (step_of (meant ask)) t.now c) }
-{
-    if ask.wants(role_at(t, c)) {
-        node(t, ask.plan(kind_at(t, c)), c, n, w);
+impl<'a, 'b> Walk<'a, 'b> {
+    // The siblings from node i up to e, by what is asked of them.
+    #[cycle(visiting)]
+    pub(crate) fn visit(&mut self, first: Ask, i: usize, e: usize)
+        requires { Part self.old.t.now i e }
+        ensures { Walked self.old self.new (asked_as (meant first) (forest_of self.old.t.now i e)) }
+    {
+        let mut ask = first;
+        let mut c = i;
+        // Kept: c goes by the sizes that it reads, and what is asked changes along the way.
+        while c < e {
+            self.step(ask, c);
+            ask = ask.after(role_at(self.t, c));
+            c += size_at(self.t, c);
+        }
     }
-}
 
-// Node c by its plan.
-#[cycle(visiting)]
-fn node(t: &[u8], plan: &[Ask], c: usize, n: usize, w: &mut [u16])
-    requires { Subtree t.now c }
-    ensures { w.new ≡ meets t.now n w.old (at (run (map number plan.now)) t.now c) }
-{
-    for ask in plan {
-        below(t, *ask, c, n, w);
+    // Node c, where it is asked for.
+    #[cycle(visiting)]
+    fn step(&mut self, ask: Ask, c: usize)
+        requires { Subtree self.old.t.now c }
+        ensures { Walked self.old self.new (at (step_of (meant ask)) self.old.t.now c) }
+    {
+        if ask.wants(role_at(self.t, c)) {
+            self.node(ask.plan(kind_at(self.t, c)), c);
+        }
     }
-}
 
-// What is asked of the children of node c, or of the node itself.
-#[cycle(visiting)]
-fn below(t: &[u8], ask: Ask, c: usize, n: usize, w: &mut [u16])
-    requires { Subtree t.now c }
-    ensures { w.new ≡ meets t.now n w.old (at (below_of (number ask)) t.now c) }
-{
-    match ask {
-        Ask::Itself => meet(t, w, n, c),
-        _ => visit(t, ask, c + 1, c + size_at(t, c), n, w),
+    // Node c by its plan.
+    #[cycle(visiting)]
+    fn node(&mut self, plan: &[Ask], c: usize)
+        requires { Subtree self.old.t.now c }
+        ensures { Walked self.old self.new (at (run (map number plan.now)) self.old.t.now c) }
+    {
+        for ask in plan {
+            self.below(*ask, c);
+        }
+    }
+
+    // What is asked of the children of node c, or of the node itself.
+    #[cycle(visiting)]
+    fn below(&mut self, ask: Ask, c: usize)
+        requires { Subtree self.old.t.now c }
+        ensures { Walked self.old self.new (at (below_of (number ask)) self.old.t.now c) }
+    {
+        match ask {
+            Ask::Itself => meet(self.t, self.w, self.places, c),
+            _ => self.visit(ask, c + 1, c + size_at(self.t, c)),
+        }
     }
 }

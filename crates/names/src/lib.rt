@@ -24,7 +24,7 @@ use scope::table::{CODE, WARN, word_at};
 use tree::kinds::Role;
 use tree::lookup::number_of;
 use tree::{Facts, judge};
-use walk::Wanted;
+use walk::{Walk, Wanted};
 
 mod walk;
 
@@ -33,8 +33,8 @@ fn walked(t: &[u8], n: usize, w: &mut [u16]) -> usize
     requires { Ready t.now n × (work_words ≤ length w.old) }
     ensures { (result ≤ 1024) × (out_of t.now w.new result ≡ names_tour (underscored (table_of t.now)) (globals_of t.now) (module_of t.now n)) }
 {
-    let f = number_of(t, b"fail");
-    let s = walk::visit(t, 0, n, Wanted::Of(Role::Item), 0, f, w, Scope::new());
+    let fail = number_of(t, b"fail");
+    let s = Walk { t, fail }.visit(0, n, Wanted::Of(Role::Item), 0, w, Scope::new());
     s.closed(t, w)
 }
 

@@ -1,4 +1,4 @@
-// The walk: statements, branches, loops, expressions. d: how many for statements enclose the place; f: the number of the name fail.
+// The walk: statements, branches, loops, expressions. d: how many for statements enclose the place.
 // A scope is a kilobyte and the walk recurs: where it spares a frame one, a call's result goes where its argument was.
 // The hints on inlining keep its frames small, as include/yudronkha.h promises who calls the library (docs/SPEED.md, "Stack").
 ghost use Rattle.std.specs.Prelude.{◌≡◌, ℕ, ◌+◌, ◌<◌, ◌≤◌, eqb};
@@ -41,423 +41,431 @@ enum Binding {
     Uses,
 }
 
-// The wanted nodes from i up to e.
-#[cycle(walking)]
-#[inline(never)]
-pub fn visit(
-    t: &[u8],
-    i: usize,
-    e: usize,
-    wanted: Wanted,
-    d: usize,
-    f: usize,
-    w: &mut [u16],
-    s: Scope,
-) -> Scope
-    requires { Part t.now i e × (d ≤ i) × Fits w.old s }
-    ensures { Goes t.now d (visit_of t.now f (want_of wanted) i e) w.old s w.new result }
-{
-    let mut z = s;
-    let mut c = i;
-    while c < e {
-        z = step(t, c, wanted, d, f, w, z);
-        c += size_at(t, c);
+// What the walk goes through: a file, and the number of the name fail.
+#[derive(Clone, Copy)]
+pub struct Walk<'a> {
+    pub t: &'a [u8],
+    pub fail: usize,
+}
+
+impl Walk<'_> {
+    // The wanted nodes from i up to e.
+    #[cycle(walking)]
+    #[inline(never)]
+    pub fn visit(
+        &self,
+        i: usize,
+        e: usize,
+        wanted: Wanted,
+        d: usize,
+        w: &mut [u16],
+        s: Scope,
+    ) -> Scope
+        requires { Part self.now.t.now i e × (d ≤ i) × Fits w.old s }
+        ensures { Goes self.now.t.now d (visit_of self.now.t.now self.now.fail (want_of wanted) i e) w.old s w.new result }
+    {
+        let mut z = s;
+        let mut c = i;
+        while c < e {
+            z = self.step(c, wanted, d, w, z);
+            c += size_at(self.t, c);
+        }
+        z
     }
-    z
-}
 
-// Node c, where it is wanted.
-#[cycle(walking)]
-#[inline(always)]
-fn step(t: &[u8], c: usize, wanted: Wanted, d: usize, f: usize, w: &mut [u16], s: Scope) -> Scope
-    requires { Node t.now c d × (d ≤ c) × Fits w.old s }
-    ensures { Goes t.now d (pick (wanted_of t.now wanted c) (node_of t.now f c) skip) w.old s w.new result }
-{
-    if wanted.has(t, c) {
-        return one(t, c, d, f, w, s);
-    }
-    s
-}
-
-// The wanted children of node c.
-#[cycle(walking)]
-#[inline(always)]
-fn down(t: &[u8], c: usize, wanted: Wanted, d: usize, f: usize, w: &mut [u16], s: Scope) -> Scope
-    requires { Node t.now c d × Fits w.old s }
-    ensures { Goes t.now d (down_of t.now f (want_of wanted) c) w.old s w.new result }
-{
-    let e = c + size_at(t, c);
-    visit(t, c + 1, e, wanted, d, f, w, s)
-}
-
-// One node.
-#[cycle(walking)]
-#[inline(never)]
-fn one(t: &[u8], c: usize, d: usize, f: usize, w: &mut [u16], s: Scope) -> Scope
-    requires { Node t.now c d × (d ≤ c) × Fits w.old s }
-    ensures { Goes t.now d (node_of t.now f c) w.old s w.new result }
-{
-    let k = kind_at(t, c);
-    if k < Kind::Statements as usize {
-        stmt(t, c, k, d, f, w, s)
-    } else if k <= Kind::Load as usize {
-        block(t, c, k, d, f, w, s)
-    } else {
-        expr(t, c, k, d, f, w, s)
-    }
-}
-
-// Statements with no statement below: break, continue and pass too.
-#[cycle(walking)]
-#[inline(never)]
-fn stmt(t: &[u8], c: usize, k: usize, d: usize, f: usize, w: &mut [u16], s: Scope) -> Scope
-    requires { (k ≡ kind_at t.now c) × (k < 8) × Node t.now c d × Fits w.old s }
-    ensures { Goes t.now d (node_of t.now f c) w.old s w.new result }
-{
-    if k == Kind::Return as usize {
-        ret(t, c, d, f, w, s)
-    } else if k == Kind::Expression as usize {
-        eval(t, c, d, f, w, s)
-    } else if k == Kind::Assign as usize {
-        gets(t, c, d, f, w, s)
-    } else if k == Kind::AssignModify as usize {
-        modify(t, c, d, f, w, s)
-    } else if k == Kind::Break as usize || k == Kind::Continue as usize {
-        s.stop(Abort::Loop)
-    } else {
-        down(t, c, Wanted::All, d, f, w, s)
-    }
-}
-
-#[cycle(walking)]
-#[inline(never)]
-fn ret(t: &[u8], c: usize, d: usize, f: usize, w: &mut [u16], s: Scope) -> Scope
-    requires { (kind_at t.now c ≡ 4) × Node t.now c d × Fits w.old s }
-    ensures { Goes t.now d (node_of t.now f c) w.old s w.new result }
-{
-    let a = down(t, c, Wanted::Of(Role::Expression), d, f, w, s);
-    a.stop(Abort::Function)
-}
-
-// A statement that is an expression ends the function if it calls fail.
-#[cycle(walking)]
-#[inline(never)]
-fn eval(t: &[u8], c: usize, d: usize, f: usize, w: &mut [u16], s: Scope) -> Scope
-    requires { (kind_at t.now c ≡ 5) × Node t.now c d × Fits w.old s }
-    ensures { Goes t.now d (node_of t.now f c) w.old s w.new result }
-{
-    let a = down(t, c, Wanted::Of(Role::Expression), d, f, w, s);
-    let e = c + size_at(t, c);
-    if is_fail(t, f, c + 1, e) {
-        a.stop(Abort::Function)
-    } else {
-        a
-    }
-}
-
-#[cycle(walking)]
-#[inline(never)]
-fn gets(t: &[u8], c: usize, d: usize, f: usize, w: &mut [u16], s: Scope) -> Scope
-    requires { (kind_at t.now c ≡ 6) × Node t.now c d × Fits w.old s }
-    ensures { Goes t.now d (node_of t.now f c) w.old s w.new result }
-{
-    let a = down(t, c, Wanted::Of(Role::Type), d, f, w, s);
-    let b = down(t, c, Wanted::Of(Role::Expression), d, f, w, a);
-    assign(t, c, d, f, w, b)
-}
-
-#[cycle(walking)]
-#[inline(never)]
-fn modify(t: &[u8], c: usize, d: usize, f: usize, w: &mut [u16], s: Scope) -> Scope
-    requires { (kind_at t.now c ≡ 7) × Node t.now c d × Fits w.old s }
-    ensures { Goes t.now d (node_of t.now f c) w.old s w.new result }
-{
-    let a = down(t, c, Wanted::Of(Role::Expression), d, f, w, s);
-    let b = down(t, c, Wanted::Of(Role::Target), d, f, w, a);
-    let x = bind(t, c, Role::Target, Binding::Uses, w, b);
-    assign(t, c, d, f, w, x)
-}
-
-// The target of node c: its expressions, then its names.
-#[cycle(walking)]
-#[inline(never)]
-fn assign(t: &[u8], c: usize, d: usize, f: usize, w: &mut [u16], s: Scope) -> Scope
-    requires { Node t.now c d × Fits w.old s }
-    ensures { Goes t.now d (down_of t.now f (of_role 5) c ⨟ node_bind t.now 5 c) w.old s w.new result }
-{
-    let mut a = down(t, c, Wanted::Of(Role::Target), d, f, w, s);
-    a = bind(t, c, Role::Target, Binding::Sets, w, a);
-    a
-}
-
-// Lists, if, if-else, for, def, load.
-#[cycle(walking)]
-#[inline(never)]
-fn block(t: &[u8], c: usize, k: usize, d: usize, f: usize, w: &mut [u16], s: Scope) -> Scope
-    requires { (k ≡ kind_at t.now c) × (8 ≤ k) × (k < 14) × (d ≤ c) × Node t.now c d × Fits w.old s }
-    ensures { Goes t.now d (node_of t.now f c) w.old s w.new result }
-{
-    if k == Kind::Statements as usize {
-        down(t, c, Wanted::Of(Role::Item), d, f, w, s)
-    } else if k == Kind::Def as usize {
-        def(t, c, d, f, w, s)
-    } else if k == Kind::Load as usize {
-        bind(t, c, Role::Item, Binding::Sets, w, s)
-    } else if k == Kind::For as usize {
-        loops(t, c, d, f, w, s)
-    } else {
-        cond(t, c, k, d, f, w, s)
-    }
-}
-
-// An if, an if-else: its condition first.
-#[cycle(walking)]
-#[inline(never)]
-fn cond(t: &[u8], c: usize, k: usize, d: usize, f: usize, w: &mut [u16], s: Scope) -> Scope
-    requires { (k ≡ kind_at t.now c) × (9 ≤ k) × (k < 11) × Node t.now c d × Fits w.old s }
-    ensures { Goes t.now d (node_of t.now f c) w.old s w.new result }
-{
-    let a = down(t, c, Wanted::Of(Role::Expression), d, f, w, s);
-    if k == Kind::If as usize {
-        side(t, c, d, f, w, a)
-    } else {
-        branch(t, c, d, f, w, a)
-    }
-}
-
-// An if: the second side is empty.
-#[cycle(walking)]
-#[inline(never)]
-fn side(t: &[u8], c: usize, d: usize, f: usize, w: &mut [u16], s: Scope) -> Scope
-    requires { Node t.now c d × Fits w.old s }
-    ensures { Goes t.now d (branch (down_of t.now f (of_role 1) c) skip) w.old s w.new result }
-{
-    let a = down(t, c, Wanted::Of(Role::First), d, f, w, s);
-    let b = a.back(s);
-    b.join(a)
-}
-
-// Both sides start from the same standings and abort.
-#[cycle(walking)]
-#[inline(never)]
-fn branch(t: &[u8], c: usize, d: usize, f: usize, w: &mut [u16], s: Scope) -> Scope
-    requires { Node t.now c d × Fits w.old s }
-    ensures { Goes t.now d (branch (down_of t.now f (of_role 1) c) (down_of t.now f (of_role 2) c)) w.old s w.new result }
-{
-    let a = down(t, c, Wanted::Of(Role::First), d, f, w, s);
-    let b = down(t, c, Wanted::Of(Role::Second), d, f, w, a.back(s));
-    b.join(a)
-}
-
-// A for: what it goes over, then its rounds, two, or one from the sixth on. Not in cond, whose sides would add to a for's stack.
-#[cycle(walking)]
-#[inline(never)]
-fn loops(t: &[u8], c: usize, d: usize, f: usize, w: &mut [u16], s: Scope) -> Scope
-    requires { (kind_at t.now c ≡ 11) × (d ≤ c) × Node t.now c d × Fits w.old s }
-    ensures { Goes t.now d (node_of t.now f c) w.old s w.new result }
-{
-    let n = d + 1;
-    let mut a = down(t, c, Wanted::Of(Role::Expression), d, f, w, s);
-    a = turn(t, c, n, f, w, a);
-    if 5 < n {
-        return a;
-    }
-    a = turn(t, c, n, f, w, a);
-    a
-}
-
-#[cycle(walking)]
-#[inline(never)]
-fn turn(t: &[u8], c: usize, d: usize, f: usize, w: &mut [u16], s: Scope) -> Scope
-    requires { Node t.now c d × Fits w.old s }
-    ensures { Turns t.now d (down_of t.now f (of_role 5) c ⨟ node_bind t.now 5 c ⨟ down_of t.now f (of_role 1) c) w.old s w.new result }
-{
-    let x = assign(t, c, d, f, w, s);
-    let a = down(t, c, Wanted::Of(Role::First), d, f, w, x);
-    let b = a.back(s);
-    let j = b.join(a);
-    j.unlooped()
-}
-
-#[cycle(walking)]
-#[inline(never)]
-fn def(t: &[u8], c: usize, d: usize, f: usize, w: &mut [u16], s: Scope) -> Scope
-    requires { (kind_at t.now c ≡ 12) × Node t.now c d × Fits w.old s }
-    ensures { Goes t.now d (node_of t.now f c) w.old s w.new result }
-{
-    let a = down(t, c, Wanted::Of(Role::Item), d, f, w, s);
-    let b = down(t, c, Wanted::Of(Role::Type), d, f, w, a);
-    let n = bind(t, c, Role::Name, Binding::Sets, w, b);
-    body(t, c, d, f, w, n)
-}
-
-// The scope of a def or a lambda.
-#[cycle(walking)]
-#[inline(always)]
-fn body(t: &[u8], c: usize, d: usize, f: usize, w: &mut [u16], s: Scope) -> Scope
-    requires { Node t.now c d × Fits w.old s }
-    ensures { Goes t.now d (scope (node_bind t.now 0 c ⨟ down_of t.now f (of_role 1) c)) w.old s w.new result }
-{
-    let a = bind(t, c, Role::Item, Binding::Sets, w, s.enter());
-    let b = down(t, c, Wanted::Of(Role::First), d, f, w, a);
-    b.leave(t, w, s)
-}
-
-#[cycle(walking)]
-#[inline(never)]
-fn lambda(t: &[u8], c: usize, d: usize, f: usize, w: &mut [u16], s: Scope) -> Scope
-    requires { (kind_at t.now c ≡ 24) × Node t.now c d × Fits w.old s }
-    ensures { Goes t.now d (node_of t.now f c) w.old s w.new result }
-{
-    let a = down(t, c, Wanted::Of(Role::Item), d, f, w, s);
-    body(t, c, d, f, w, a)
-}
-
-#[cycle(walking)]
-#[inline(never)]
-fn expr(t: &[u8], c: usize, k: usize, d: usize, f: usize, w: &mut [u16], s: Scope) -> Scope
-    requires { (k ≡ kind_at t.now c) × (14 ≤ k) × Node t.now c d × Fits w.old s }
-    ensures { Goes t.now d (node_of t.now f c) w.old s w.new result }
-{
-    if k == Kind::Identifier as usize {
-        s.used(t, w, c)
-    } else if k == Kind::Lambda as usize {
-        lambda(t, c, d, f, w, s)
-    } else if k == Kind::ListComprehension as usize || k == Kind::DictComprehension as usize {
-        comp(t, c, d, f, w, s)
-    } else {
-        down(t, c, Wanted::All, d, f, w, s)
-    }
-}
-
-#[cycle(walking)]
-#[inline(never)]
-fn comp(t: &[u8], c: usize, d: usize, f: usize, w: &mut [u16], s: Scope) -> Scope
-    requires { Node t.now c d × Fits w.old s }
-    ensures { Goes t.now d (over_of t.now f c ⨟ scope (bound_of t.now f c ⨟ down_of t.now f (of_role 8) c ⨟ down_of t.now f (of_role 4) c)) w.old s w.new result }
-{
-    let e = c + size_at(t, c);
-    let first = child_of(t, Role::Item as usize, c + 1, e);
-    let a = over(t, c, first, d, f, w, s);
-    let mut b = rest(t, c, first, d, f, w, a.enter());
-    b = b.leave(t, w, a);
-    b
-}
-
-// The over of the comprehension c's first clause.
-#[cycle(walking)]
-#[inline(never)]
-fn over(t: &[u8], c: usize, first: Option<usize>, d: usize, f: usize, w: &mut [u16], s: Scope) -> Scope
-    requires { (first ≡ first_clause t.now c) × Node t.now c d × Fits w.old s }
-    ensures { Goes t.now d (over_of t.now f c) w.old s w.new result }
-{
-    let Some(x) = first else {
-        return s;
-    };
-    down(t, x, Wanted::Of(Role::Expression), d, f, w, s)
-}
-
-// What of the comprehension c comes after its first over.
-#[cycle(walking)]
-#[inline(never)]
-fn rest(t: &[u8], c: usize, first: Option<usize>, d: usize, f: usize, w: &mut [u16], s: Scope) -> Scope
-    requires { (first ≡ first_clause t.now c) × Node t.now c d × Fits w.old s }
-    ensures { Goes t.now d (bound_of t.now f c ⨟ down_of t.now f (of_role 8) c ⨟ down_of t.now f (of_role 4) c) w.old s w.new result }
-{
-    let a = bound(t, c, first, d, f, w, s);
-    let b = down(t, c, Wanted::Of(Role::Key), d, f, w, a);
-    down(t, c, Wanted::Of(Role::Expression), d, f, w, b)
-}
-
-// The first target, and the later clauses.
-#[cycle(walking)]
-#[inline(never)]
-fn bound(t: &[u8], c: usize, first: Option<usize>, d: usize, f: usize, w: &mut [u16], s: Scope) -> Scope
-    requires { (first ≡ first_clause t.now c) × Node t.now c d × Fits w.old s }
-    ensures { Goes t.now d (bound_of t.now f c) w.old s w.new result }
-{
-    let Some(x) = first else {
-        return s;
-    };
-    let a = assign(t, x, d, f, w, s);
-    later(t, c, x, d, f, w, a)
-}
-
-// The clauses of the comprehension c after the first, x.
-#[cycle(walking)]
-#[inline(never)]
-fn later(t: &[u8], c: usize, x: usize, d: usize, f: usize, w: &mut [u16], s: Scope) -> Scope
-    requires { (c < x) × (x < c + size_at t.now c) × Node t.now c d × Fits w.old s }
-    ensures { Goes t.now d (clauses_of t.now f (x + size_at t.now x) (c + size_at t.now c)) w.old s w.new result }
-{
-    let e = c + size_at(t, c);
-    let mut z = s;
-    let mut i = x + size_at(t, x);
-    while i < e {
-        z = clause(t, i, d, f, w, z);
-        i += size_at(t, i);
-    }
-    z
-}
-
-#[cycle(walking)]
-#[inline(never)]
-fn clause(t: &[u8], i: usize, d: usize, f: usize, w: &mut [u16], s: Scope) -> Scope
-    requires { Node t.now i d × Fits w.old s }
-    ensures { Goes t.now d (clause_of t.now f i) w.old s w.new result }
-{
-    if role_at(t, i) != Role::Item as usize {
-        return s;
-    }
-    let a = down(t, i, Wanted::Of(Role::Expression), d, f, w, s);
-    assign(t, i, d, f, w, a)
-}
-
-// The names that the children of a role of node c bind.
-#[cycle(binding)]
-#[inline(never)]
-fn bind(t: &[u8], c: usize, role: Role, binding: Binding, w: &mut [u16], s: Scope) -> Scope
-    requires { Node t.now c 0 × Fits w.old s }
-    ensures { (d : ℕ) → Goes t.now d (pick (used_by binding) (node_use t.now (number role) c) (node_bind t.now (number role) c)) w.old s w.new result }
-{
-    let e = c + size_at(t, c);
-    let mut z = s;
-    let mut i = c + 1;
-    while i < e {
-        z = bind_one(t, i, role, binding, w, z);
-        i += size_at(t, i);
-    }
-    z
-}
-
-#[cycle(binding)]
-#[inline(never)]
-fn bind_one(t: &[u8], i: usize, role: Role, binding: Binding, w: &mut [u16], s: Scope) -> Scope
-    requires { Node t.now i 0 × Fits w.old s }
-    ensures { (d : ℕ) → Goes t.now d (pick (eqb (number role) (role_at t.now i)) (name_node (used_by binding) t.now i) skip) w.old s w.new result }
-{
-    if role_at(t, i) != role as usize {
-        return s;
-    }
-    let k = kind_at(t, i);
-    if k == Kind::Several as usize {
-        bind(t, i, Role::Item, binding, w, s)
-    } else if binds_name(k) {
-        ident(t, i, binding, w, s)
-    } else {
+    // Node c, where it is wanted.
+    #[cycle(walking)]
+    #[inline(always)]
+    fn step(&self, c: usize, wanted: Wanted, d: usize, w: &mut [u16], s: Scope) -> Scope
+        requires { Node self.now.t.now c d × (d ≤ c) × Fits w.old s }
+        ensures { Goes self.now.t.now d (pick (wanted_of self.now.t.now wanted c) (node_of self.now.t.now self.now.fail c) skip) w.old s w.new result }
+    {
+        if wanted.has(self.t, c) {
+            return self.one(c, d, w, s);
+        }
         s
     }
-}
 
-// The name of node i.
-#[inline(never)]
-fn ident(t: &[u8], i: usize, binding: Binding, w: &mut [u16], s: Scope) -> Scope
-    requires { Node t.now i 0 × Fits w.old s }
-    ensures { (d : ℕ) → Goes t.now d (pick (used_by binding) (use_of (node_head t.now i)) (set_of (sort_of (kind_at t.now i)) (node_head t.now i))) w.old s w.new result }
-{
-    match binding {
-        Binding::Sets => s.set(t, w, i),
-        Binding::Uses => s.used(t, w, i),
+    // The wanted children of node c.
+    #[cycle(walking)]
+    #[inline(always)]
+    fn down(&self, c: usize, wanted: Wanted, d: usize, w: &mut [u16], s: Scope) -> Scope
+        requires { Node self.now.t.now c d × Fits w.old s }
+        ensures { Goes self.now.t.now d (down_of self.now.t.now self.now.fail (want_of wanted) c) w.old s w.new result }
+    {
+        let e = c + size_at(self.t, c);
+        self.visit(c + 1, e, wanted, d, w, s)
+    }
+
+    // One node.
+    #[cycle(walking)]
+    #[inline(never)]
+    fn one(&self, c: usize, d: usize, w: &mut [u16], s: Scope) -> Scope
+        requires { Node self.now.t.now c d × (d ≤ c) × Fits w.old s }
+        ensures { Goes self.now.t.now d (node_of self.now.t.now self.now.fail c) w.old s w.new result }
+    {
+        let k = kind_at(self.t, c);
+        if k < Kind::Statements as usize {
+            self.stmt(c, k, d, w, s)
+        } else if k <= Kind::Load as usize {
+            self.block(c, k, d, w, s)
+        } else {
+            self.expr(c, k, d, w, s)
+        }
+    }
+
+    // Statements with no statement below: break, continue and pass too.
+    #[cycle(walking)]
+    #[inline(never)]
+    fn stmt(&self, c: usize, k: usize, d: usize, w: &mut [u16], s: Scope) -> Scope
+        requires { (k ≡ kind_at self.now.t.now c) × (k < 8) × Node self.now.t.now c d × Fits w.old s }
+        ensures { Goes self.now.t.now d (node_of self.now.t.now self.now.fail c) w.old s w.new result }
+    {
+        if k == Kind::Return as usize {
+            self.ret(c, d, w, s)
+        } else if k == Kind::Expression as usize {
+            self.eval(c, d, w, s)
+        } else if k == Kind::Assign as usize {
+            self.gets(c, d, w, s)
+        } else if k == Kind::AssignModify as usize {
+            self.modify(c, d, w, s)
+        } else if k == Kind::Break as usize || k == Kind::Continue as usize {
+            s.stop(Abort::Loop)
+        } else {
+            self.down(c, Wanted::All, d, w, s)
+        }
+    }
+
+    #[cycle(walking)]
+    #[inline(never)]
+    fn ret(&self, c: usize, d: usize, w: &mut [u16], s: Scope) -> Scope
+        requires { (kind_at self.now.t.now c ≡ 4) × Node self.now.t.now c d × Fits w.old s }
+        ensures { Goes self.now.t.now d (node_of self.now.t.now self.now.fail c) w.old s w.new result }
+    {
+        let a = self.down(c, Wanted::Of(Role::Expression), d, w, s);
+        a.stop(Abort::Function)
+    }
+
+    // A statement that is an expression ends the function if it calls fail.
+    #[cycle(walking)]
+    #[inline(never)]
+    fn eval(&self, c: usize, d: usize, w: &mut [u16], s: Scope) -> Scope
+        requires { (kind_at self.now.t.now c ≡ 5) × Node self.now.t.now c d × Fits w.old s }
+        ensures { Goes self.now.t.now d (node_of self.now.t.now self.now.fail c) w.old s w.new result }
+    {
+        let a = self.down(c, Wanted::Of(Role::Expression), d, w, s);
+        let e = c + size_at(self.t, c);
+        if is_fail(self.t, self.fail, c + 1, e) {
+            a.stop(Abort::Function)
+        } else {
+            a
+        }
+    }
+
+    #[cycle(walking)]
+    #[inline(never)]
+    fn gets(&self, c: usize, d: usize, w: &mut [u16], s: Scope) -> Scope
+        requires { (kind_at self.now.t.now c ≡ 6) × Node self.now.t.now c d × Fits w.old s }
+        ensures { Goes self.now.t.now d (node_of self.now.t.now self.now.fail c) w.old s w.new result }
+    {
+        let a = self.down(c, Wanted::Of(Role::Type), d, w, s);
+        let b = self.down(c, Wanted::Of(Role::Expression), d, w, a);
+        self.assign(c, d, w, b)
+    }
+
+    #[cycle(walking)]
+    #[inline(never)]
+    fn modify(&self, c: usize, d: usize, w: &mut [u16], s: Scope) -> Scope
+        requires { (kind_at self.now.t.now c ≡ 7) × Node self.now.t.now c d × Fits w.old s }
+        ensures { Goes self.now.t.now d (node_of self.now.t.now self.now.fail c) w.old s w.new result }
+    {
+        let a = self.down(c, Wanted::Of(Role::Expression), d, w, s);
+        let b = self.down(c, Wanted::Of(Role::Target), d, w, a);
+        let x = self.bind(c, Role::Target, Binding::Uses, w, b);
+        self.assign(c, d, w, x)
+    }
+
+    // The target of node c: its expressions, then its names.
+    #[cycle(walking)]
+    #[inline(never)]
+    fn assign(&self, c: usize, d: usize, w: &mut [u16], s: Scope) -> Scope
+        requires { Node self.now.t.now c d × Fits w.old s }
+        ensures { Goes self.now.t.now d (down_of self.now.t.now self.now.fail (of_role 5) c ⨟ node_bind self.now.t.now 5 c) w.old s w.new result }
+    {
+        let mut a = self.down(c, Wanted::Of(Role::Target), d, w, s);
+        a = self.bind(c, Role::Target, Binding::Sets, w, a);
+        a
+    }
+
+    // Lists, if, if-else, for, def, load.
+    #[cycle(walking)]
+    #[inline(never)]
+    fn block(&self, c: usize, k: usize, d: usize, w: &mut [u16], s: Scope) -> Scope
+        requires { (k ≡ kind_at self.now.t.now c) × (8 ≤ k) × (k < 14) × (d ≤ c) × Node self.now.t.now c d × Fits w.old s }
+        ensures { Goes self.now.t.now d (node_of self.now.t.now self.now.fail c) w.old s w.new result }
+    {
+        if k == Kind::Statements as usize {
+            self.down(c, Wanted::Of(Role::Item), d, w, s)
+        } else if k == Kind::Def as usize {
+            self.def(c, d, w, s)
+        } else if k == Kind::Load as usize {
+            self.bind(c, Role::Item, Binding::Sets, w, s)
+        } else if k == Kind::For as usize {
+            self.loops(c, d, w, s)
+        } else {
+            self.cond(c, k, d, w, s)
+        }
+    }
+
+    // An if, an if-else: its condition first.
+    #[cycle(walking)]
+    #[inline(never)]
+    fn cond(&self, c: usize, k: usize, d: usize, w: &mut [u16], s: Scope) -> Scope
+        requires { (k ≡ kind_at self.now.t.now c) × (9 ≤ k) × (k < 11) × Node self.now.t.now c d × Fits w.old s }
+        ensures { Goes self.now.t.now d (node_of self.now.t.now self.now.fail c) w.old s w.new result }
+    {
+        let a = self.down(c, Wanted::Of(Role::Expression), d, w, s);
+        if k == Kind::If as usize {
+            self.side(c, d, w, a)
+        } else {
+            self.branch(c, d, w, a)
+        }
+    }
+
+    // An if: the second side is empty.
+    #[cycle(walking)]
+    #[inline(never)]
+    fn side(&self, c: usize, d: usize, w: &mut [u16], s: Scope) -> Scope
+        requires { Node self.now.t.now c d × Fits w.old s }
+        ensures { Goes self.now.t.now d (branch (down_of self.now.t.now self.now.fail (of_role 1) c) skip) w.old s w.new result }
+    {
+        let a = self.down(c, Wanted::Of(Role::First), d, w, s);
+        let b = a.back(s);
+        b.join(a)
+    }
+
+    // Both sides start from the same standings and abort.
+    #[cycle(walking)]
+    #[inline(never)]
+    fn branch(&self, c: usize, d: usize, w: &mut [u16], s: Scope) -> Scope
+        requires { Node self.now.t.now c d × Fits w.old s }
+        ensures { Goes self.now.t.now d (branch (down_of self.now.t.now self.now.fail (of_role 1) c) (down_of self.now.t.now self.now.fail (of_role 2) c)) w.old s w.new result }
+    {
+        let a = self.down(c, Wanted::Of(Role::First), d, w, s);
+        let b = self.down(c, Wanted::Of(Role::Second), d, w, a.back(s));
+        b.join(a)
+    }
+
+    // A for: what it goes over, then its rounds, two, or one from the sixth on. Not in cond, whose sides would add to a for's stack.
+    #[cycle(walking)]
+    #[inline(never)]
+    fn loops(&self, c: usize, d: usize, w: &mut [u16], s: Scope) -> Scope
+        requires { (kind_at self.now.t.now c ≡ 11) × (d ≤ c) × Node self.now.t.now c d × Fits w.old s }
+        ensures { Goes self.now.t.now d (node_of self.now.t.now self.now.fail c) w.old s w.new result }
+    {
+        let n = d + 1;
+        let mut a = self.down(c, Wanted::Of(Role::Expression), d, w, s);
+        a = self.turn(c, n, w, a);
+        if 5 < n {
+            return a;
+        }
+        a = self.turn(c, n, w, a);
+        a
+    }
+
+    #[cycle(walking)]
+    #[inline(never)]
+    fn turn(&self, c: usize, d: usize, w: &mut [u16], s: Scope) -> Scope
+        requires { Node self.now.t.now c d × Fits w.old s }
+        ensures { Turns self.now.t.now d (down_of self.now.t.now self.now.fail (of_role 5) c ⨟ node_bind self.now.t.now 5 c ⨟ down_of self.now.t.now self.now.fail (of_role 1) c) w.old s w.new result }
+    {
+        let x = self.assign(c, d, w, s);
+        let a = self.down(c, Wanted::Of(Role::First), d, w, x);
+        let b = a.back(s);
+        let j = b.join(a);
+        j.unlooped()
+    }
+
+    #[cycle(walking)]
+    #[inline(never)]
+    fn def(&self, c: usize, d: usize, w: &mut [u16], s: Scope) -> Scope
+        requires { (kind_at self.now.t.now c ≡ 12) × Node self.now.t.now c d × Fits w.old s }
+        ensures { Goes self.now.t.now d (node_of self.now.t.now self.now.fail c) w.old s w.new result }
+    {
+        let a = self.down(c, Wanted::Of(Role::Item), d, w, s);
+        let b = self.down(c, Wanted::Of(Role::Type), d, w, a);
+        let n = self.bind(c, Role::Name, Binding::Sets, w, b);
+        self.body(c, d, w, n)
+    }
+
+    // The scope of a def or a lambda.
+    #[cycle(walking)]
+    #[inline(always)]
+    fn body(&self, c: usize, d: usize, w: &mut [u16], s: Scope) -> Scope
+        requires { Node self.now.t.now c d × Fits w.old s }
+        ensures { Goes self.now.t.now d (scope (node_bind self.now.t.now 0 c ⨟ down_of self.now.t.now self.now.fail (of_role 1) c)) w.old s w.new result }
+    {
+        let a = self.bind(c, Role::Item, Binding::Sets, w, s.enter());
+        let b = self.down(c, Wanted::Of(Role::First), d, w, a);
+        b.leave(self.t, w, s)
+    }
+
+    #[cycle(walking)]
+    #[inline(never)]
+    fn lambda(&self, c: usize, d: usize, w: &mut [u16], s: Scope) -> Scope
+        requires { (kind_at self.now.t.now c ≡ 24) × Node self.now.t.now c d × Fits w.old s }
+        ensures { Goes self.now.t.now d (node_of self.now.t.now self.now.fail c) w.old s w.new result }
+    {
+        let a = self.down(c, Wanted::Of(Role::Item), d, w, s);
+        self.body(c, d, w, a)
+    }
+
+    #[cycle(walking)]
+    #[inline(never)]
+    fn expr(&self, c: usize, k: usize, d: usize, w: &mut [u16], s: Scope) -> Scope
+        requires { (k ≡ kind_at self.now.t.now c) × (14 ≤ k) × Node self.now.t.now c d × Fits w.old s }
+        ensures { Goes self.now.t.now d (node_of self.now.t.now self.now.fail c) w.old s w.new result }
+    {
+        if k == Kind::Identifier as usize {
+            s.used(self.t, w, c)
+        } else if k == Kind::Lambda as usize {
+            self.lambda(c, d, w, s)
+        } else if k == Kind::ListComprehension as usize || k == Kind::DictComprehension as usize {
+            self.comp(c, d, w, s)
+        } else {
+            self.down(c, Wanted::All, d, w, s)
+        }
+    }
+
+    #[cycle(walking)]
+    #[inline(never)]
+    fn comp(&self, c: usize, d: usize, w: &mut [u16], s: Scope) -> Scope
+        requires { Node self.now.t.now c d × Fits w.old s }
+        ensures { Goes self.now.t.now d (over_of self.now.t.now self.now.fail c ⨟ scope (bound_of self.now.t.now self.now.fail c ⨟ down_of self.now.t.now self.now.fail (of_role 8) c ⨟ down_of self.now.t.now self.now.fail (of_role 4) c)) w.old s w.new result }
+    {
+        let e = c + size_at(self.t, c);
+        let first = child_of(self.t, Role::Item as usize, c + 1, e);
+        let a = self.over(c, first, d, w, s);
+        let mut b = self.rest(c, first, d, w, a.enter());
+        b = b.leave(self.t, w, a);
+        b
+    }
+
+    // The over of the comprehension c's first clause.
+    #[cycle(walking)]
+    #[inline(never)]
+    fn over(&self, c: usize, first: Option<usize>, d: usize, w: &mut [u16], s: Scope) -> Scope
+        requires { (first ≡ first_clause self.now.t.now c) × Node self.now.t.now c d × Fits w.old s }
+        ensures { Goes self.now.t.now d (over_of self.now.t.now self.now.fail c) w.old s w.new result }
+    {
+        let Some(x) = first else {
+            return s;
+        };
+        self.down(x, Wanted::Of(Role::Expression), d, w, s)
+    }
+
+    // What of the comprehension c comes after its first over.
+    #[cycle(walking)]
+    #[inline(never)]
+    fn rest(&self, c: usize, first: Option<usize>, d: usize, w: &mut [u16], s: Scope) -> Scope
+        requires { (first ≡ first_clause self.now.t.now c) × Node self.now.t.now c d × Fits w.old s }
+        ensures { Goes self.now.t.now d (bound_of self.now.t.now self.now.fail c ⨟ down_of self.now.t.now self.now.fail (of_role 8) c ⨟ down_of self.now.t.now self.now.fail (of_role 4) c) w.old s w.new result }
+    {
+        let a = self.bound(c, first, d, w, s);
+        let b = self.down(c, Wanted::Of(Role::Key), d, w, a);
+        self.down(c, Wanted::Of(Role::Expression), d, w, b)
+    }
+
+    // The first target, and the later clauses.
+    #[cycle(walking)]
+    #[inline(never)]
+    fn bound(&self, c: usize, first: Option<usize>, d: usize, w: &mut [u16], s: Scope) -> Scope
+        requires { (first ≡ first_clause self.now.t.now c) × Node self.now.t.now c d × Fits w.old s }
+        ensures { Goes self.now.t.now d (bound_of self.now.t.now self.now.fail c) w.old s w.new result }
+    {
+        let Some(x) = first else {
+            return s;
+        };
+        let a = self.assign(x, d, w, s);
+        self.later(c, x, d, w, a)
+    }
+
+    // The clauses of the comprehension c after the first, x.
+    #[cycle(walking)]
+    #[inline(never)]
+    fn later(&self, c: usize, x: usize, d: usize, w: &mut [u16], s: Scope) -> Scope
+        requires { (c < x) × (x < c + size_at self.now.t.now c) × Node self.now.t.now c d × Fits w.old s }
+        ensures { Goes self.now.t.now d (clauses_of self.now.t.now self.now.fail (x + size_at self.now.t.now x) (c + size_at self.now.t.now c)) w.old s w.new result }
+    {
+        let e = c + size_at(self.t, c);
+        let mut z = s;
+        let mut i = x + size_at(self.t, x);
+        while i < e {
+            z = self.clause(i, d, w, z);
+            i += size_at(self.t, i);
+        }
+        z
+    }
+
+    #[cycle(walking)]
+    #[inline(never)]
+    fn clause(&self, i: usize, d: usize, w: &mut [u16], s: Scope) -> Scope
+        requires { Node self.now.t.now i d × Fits w.old s }
+        ensures { Goes self.now.t.now d (clause_of self.now.t.now self.now.fail i) w.old s w.new result }
+    {
+        if role_at(self.t, i) != Role::Item as usize {
+            return s;
+        }
+        let a = self.down(i, Wanted::Of(Role::Expression), d, w, s);
+        self.assign(i, d, w, a)
+    }
+
+    // The names that the children of a role of node c bind.
+    #[cycle(binding)]
+    #[inline(never)]
+    fn bind(&self, c: usize, role: Role, binding: Binding, w: &mut [u16], s: Scope) -> Scope
+        requires { Node self.now.t.now c 0 × Fits w.old s }
+        ensures { (d : ℕ) → Goes self.now.t.now d (pick (used_by binding) (node_use self.now.t.now (number role) c) (node_bind self.now.t.now (number role) c)) w.old s w.new result }
+    {
+        let e = c + size_at(self.t, c);
+        let mut z = s;
+        let mut i = c + 1;
+        while i < e {
+            z = self.bind_one(i, role, binding, w, z);
+            i += size_at(self.t, i);
+        }
+        z
+    }
+
+    #[cycle(binding)]
+    #[inline(never)]
+    fn bind_one(&self, i: usize, role: Role, binding: Binding, w: &mut [u16], s: Scope) -> Scope
+        requires { Node self.now.t.now i 0 × Fits w.old s }
+        ensures { (d : ℕ) → Goes self.now.t.now d (pick (eqb (number role) (role_at self.now.t.now i)) (name_node (used_by binding) self.now.t.now i) skip) w.old s w.new result }
+    {
+        if role_at(self.t, i) != role as usize {
+            return s;
+        }
+        let k = kind_at(self.t, i);
+        if k == Kind::Several as usize {
+            self.bind(i, Role::Item, binding, w, s)
+        } else if binds_name(k) {
+            self.ident(i, binding, w, s)
+        } else {
+            s
+        }
+    }
+
+    // The name of node i.
+    #[inline(never)]
+    fn ident(&self, i: usize, binding: Binding, w: &mut [u16], s: Scope) -> Scope
+        requires { Node self.now.t.now i 0 × Fits w.old s }
+        ensures { (d : ℕ) → Goes self.now.t.now d (pick (used_by binding) (use_of (node_head self.now.t.now i)) (set_of (sort_of (kind_at self.now.t.now i)) (node_head self.now.t.now i))) w.old s w.new result }
+    {
+        match binding {
+            Binding::Sets => s.set(self.t, w, i),
+            Binding::Uses => s.used(self.t, w, i),
+        }
     }
 }
 

@@ -141,6 +141,7 @@ impl Entry {
 
 // entries: by place, the settings of this scope and of those outside it. From first up to settings, cant up to cants, loose
 // up to looses: the places of its settings, its can't-set and its unbound uses. warnings: how many so far, of all scopes.
+// Kept: Fits and enter_scope of specs/ name each bound as a field of its own, and with no heap the counts stand beside an array.
 #[derive(Clone, Copy, Debug, PartialEq, Eq)]
 pub struct Scope {
     pub entries: [Entry; 1024],
@@ -244,6 +245,7 @@ fn unknown_one(t: &[u8], w: &mut [u16], at: Places, n: usize, i: usize) -> usize
 }
 
 // Node i of the uses of a scope that is left warns: a can't-set one where `late`, else an unbound one.
+// Kept: uses_lines of specs/, which the laws of leaving are about, has this flag.
 fn warn_use(t: &[u8], w: &mut [u16], late: bool, at: Places, n: usize, i: usize) -> usize
     requires { (n ≤ 1024) × (i < 65536) }
     ensures { (result ≡ (use_lines late t.now at.from at.to w.old n i).count) × (w.new ≡ (use_lines late t.now at.from at.to w.old n i).words) × (result ≤ 1024) }

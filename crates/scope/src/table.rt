@@ -11,6 +11,7 @@ use rules::Code;
 use tree::bytes::{begin_at, end_at, kind_at, value_at};
 use tree::kinds::Kind;
 
+// Kept: the caller lends one slice of words (set, used, leave), so the tables are rows of it, by these offsets.
 // By place, from 0 on: the node of a setting. From USED and BASE on: whether it is used, and the first place of its scope.
 pub(crate) const USED: usize = 1024;
 
@@ -36,6 +37,7 @@ pub(crate) struct Places {
 }
 
 // How two nodes are alike: by name, by name and span, or by these and the sort of setting.
+// Kept: find_in and alike_at of specs/ take it, so it is no closure.
 #[derive(Clone, Copy, Debug, PartialEq, Eq)]
 pub enum Like {
     Name,
@@ -44,6 +46,7 @@ pub enum Like {
 }
 
 // A word; 0 past the end.
+// Kept: its contract gives that 0, which meeting and names cite.
 pub fn word_at(w: &[u16], k: usize) -> usize
     ensures { (result ≡ get_or w.now k 0) × (result < 65536) }
 {
@@ -51,6 +54,7 @@ pub fn word_at(w: &[u16], k: usize) -> usize
 }
 
 // A word is set, if it is there.
+// Kept: get_mut's contract tells nothing of the slice after the write through it, so the proof did not close.
 pub fn store(w: &mut [u16], k: usize, v: usize)
     requires { v < 65536 }
     ensures { w.new ≡ set w.old k v }
@@ -108,12 +112,7 @@ pub(crate) fn find(t: &[u8], w: &[u16], how: Like, at: Places, i: usize) -> Opti
     ensures place { result ≡ found_in t.now w.now how at.from at.to i }
     ensures within { IfSome result (λ p. p < at.to) }
 {
-    for j in at.from..at.to {
-        if alike(t, how, i, word_at(w, j)) {
-            return Some(j);
-        }
-    }
-    None
+    (at.from..at.to).find(|j| alike(t, how, i, word_at(w, *j)))
 }
 
 // Whether there is one.
@@ -136,6 +135,7 @@ pub(crate) fn join_list(t: &[u8], w: &mut [u16], at: Places, end: usize, i: usiz
 }
 
 // One more warning, unless its pair is warned: the new count.
+// Kept: the code is stored as a word, and warn_words of specs/ takes its number.
 pub(crate) fn warn(t: &[u8], w: &mut [u16], n: usize, code: usize, i: usize) -> usize
     requires { (n ≤ 1024) × (code < 65536) × (i < 65536) }
     ensures { (result ≡ warn_count t.now w.old n i) × (w.new ≡ warn_words t.now w.old n code i) × (result ≤ 1024) }

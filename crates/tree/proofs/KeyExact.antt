@@ -19,8 +19,8 @@ use Rattle.tree.specs.declared.Likeness.{Likeness}
 use Rattle.tree.specs.declared.Likeness.TheVariants.{Different, SameForm, SameNumber}
 use Rattle.tree.specs.declared.Mode.{Mode}
 use Rattle.tree.specs.declared.Mode.TheVariants.{Strict}
-use Rattle.tree.specs.declared.floats.Float.TheVariants.{Whole, Other}
-use Rattle.tree.specs.declared.keys.Side.TheVariants.{Equal}
+use Rattle.std.specs.Prelude.{Some, None}
+use Rattle.std.specs.declared.cmp.Ordering.TheVariants.{Equal}
 use Rattle.tree.specs.code.Numbers.{valued, KeyNumbers, like_by}
 use Rattle.tree.proofs.KeyLaws.{IsNumber, value_path, Same, by_form, by_number, same_means, whole_grains, counted_some, grains_whole, integer, floating, mixed_keys, too_large}
 use Rattle.tree.proofs.KeyReasons.{said_form}
@@ -47,7 +47,7 @@ infinity_alone m ys w e t = go (same_means m (floating ys) w t)
 
 -- "Show it once over the exponent": what bytes_side answers of k bytes of t from o on and of what float_of made of 64 bits, by their contracts as
 -- the checker reads them (Post: b has t, k, o and that, a the bits; r is the answer). Equal exactly if the float is the number of those bytes.
-pub decides : (κs : _) (b : _) (r : _) (s : _) → of_bytes.Post κs b r s → (κs' : _) (a : _) (s' : _) → of_float.Post κs' a (Whole b.1.1.1.0) s'
+pub decides : (κs : _) (b : _) (r : _) (s : _) → of_bytes.Post κs b r s → (κs' : _) (a : _) (s' : _) → of_float.Post κs' a (Some b.1.1.1.0) s'
     → (r ≡ Equal) ↔ IsNumber a.0 (magnitude (bytes_from b.1.0 b.0.now b.1.1.0))
 decides κs b r s e κs' a s' f =
     let n = valued b.1.1.1.0 in
@@ -57,8 +57,8 @@ decides κs b r s e κs' a s' f =
       λ p. e ∙ side_equal n k (sym (some-injective n k (f.0 ∙ grains_whole a.0 k p.0 p.1))),
     )
 
--- and where float_of answers Other, it is no whole number
-pub other_none : (κs : _) (a : _) (s : _) → of_float.Post κs a Other s → (n : ℕ) → IsNumber a.0 n → ⊥
+-- and where float_of answers None, it is no whole number
+pub other_none : (κs : _) (a : _) (s : _) → of_float.Post κs a None s → (n : ℕ) → IsNumber a.0 n → ⊥
 other_none κs a s f n p = none-ne-some n (f.0 ∙ grains_whole a.0 n p.0 p.1)
 
 -- ---- of a file that is judged valid: value a an integer, value b a float

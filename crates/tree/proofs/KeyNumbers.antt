@@ -14,8 +14,8 @@ use Rattle.tree.specs.code.Offsets.{u64_at, kind_of, len_of}
 use Rattle.tree.specs.Values.{Value, magnitude, value_from, offset}
 use Rattle.tree.specs.declared.Mode.{Mode}
 use Rattle.tree.specs.declared.Likeness.TheVariants.{Different, SameForm, SameNumber}
-use Rattle.tree.specs.declared.keys.Side.{Side}
-use Rattle.tree.specs.declared.keys.Side.TheVariants.{Below, Above}
+use Rattle.std.specs.declared.cmp.Ordering.{Ordering}
+use Rattle.std.specs.declared.cmp.Ordering.TheVariants.{Less, Greater}
 use Rattle.tree.specs.Keys.{whole, only_if, counts, counted}
 use Rattle.tree.specs.Table.{table_of, at}
 use Rattle.tree.specs.code.Numbers.{integer_is, is_integer, below, level, short_of, Starts, side_of, placed, sought, lead, key_number, like_by}
@@ -50,10 +50,10 @@ module _ (t : List ℕ) (m : Mode) (v o : ℕ) (h : v < value_count t) (e : o �
   key_float k l = rw (value_is, length_from (len_of t o) t (o + 3), eq-eqb (kind_of t o) 4 k, l, little_eight t (o + 3))
 
 -- a value is the integer n where it stands neither before nor behind it
-level_is : (k n x : ℕ) → level (pick (ltb k 3) Below (pick (ltb 3 k) Above (side_of n x))) ≡ (eqb k 3 && eqb x n)
+level_is : (k n x : ℕ) → level (pick (ltb k 3) Less (pick (ltb 3 k) Greater (side_of n x))) ≡ (eqb k 3 && eqb x n)
 level_is k n x = go (ℕ_discrete k 3) (dec_lt k 3) (ℕ_discrete x n) (dec_lt x n)
   where
-    go : Dec (k ≡ 3) → Dec (k < 3) → Dec (x ≡ n) → Dec (x < n) → level (pick (ltb k 3) Below (pick (ltb 3 k) Above (side_of n x))) ≡ (eqb k 3 && eqb x n)
+    go : Dec (k ≡ 3) → Dec (k < 3) → Dec (x ≡ n) → Dec (x < n) → level (pick (ltb k 3) Less (pick (ltb 3 k) Greater (side_of n x))) ≡ (eqb k 3 && eqb x n)
     go (yes e) d (yes z) l = rw (e, le-ltb x n (omega arith), eq-eqb x n z)
     go (yes e) d (no z) (yes l) = rw (e, lt-ltb x n l, ne_eqb x n z)
     go (yes e) d (no z) (no l) = rw (e, le-ltb x n (omega arith), ne_eqb x n z)
@@ -68,7 +68,7 @@ module _ (t table : List ℕ) (starts : Starts t table) (u : ℕ) (low : u < 512
   start_is : value_from t (get_or table u 0) ≡ at (table_of t) u
   start_is = ap (value_from t) (start_at t table starts u low few) ∙ sym (at_table t u few)
 
-  module _ (n : ℕ) {s : Side} (e : s ≡ placed n (value_from t (get_or table u 0))) where
+  module _ (n : ℕ) {s : Ordering} (e : s ≡ placed n (value_from t (get_or table u 0))) where
     pub short_here : {b : Bool} → b ≡ below s → short_of (table_of t) n u ≡ b
     short_here q = sym (q ∙ (ap below e ∙ ap (λ (v : Value). below (placed n v)) start_is))
 

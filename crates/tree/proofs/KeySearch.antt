@@ -14,7 +14,7 @@ use Rattle.tree.specs.Values.{Value, sense, form_as, magnitude, no_zero_first, f
 use Rattle.tree.specs.Judge.{judged}
 use Rattle.tree.specs.Table.{table_of, at}
 use Rattle.tree.specs.declared.Facts.{Facts}
-use Rattle.tree.specs.declared.keys.Side.TheVariants.{Below, Equal, Above}
+use Rattle.std.specs.declared.cmp.Ordering.TheVariants.{Less, Equal, Greater}
 use Rattle.tree.specs.code.Numbers.{integer_is, below, placed, short_of, sought}
 use Rattle.tree.proofs.Search.{clash}
 use Rattle.tree.proofs.KeyLaws.{all_bytes, and_left, and_right, Lex, less, tied, lex}
@@ -35,7 +35,7 @@ short_means : (n : ℕ) (v : Value) → below (placed n v) ≡ true → Short n 
 short_means n v = go (ltb v.kind 3) refl (ltb 3 v.kind) refl (ltb (magnitude v.bytes) n) refl (eqb (magnitude v.bytes) n)
   where
     go : (a : Bool) → ltb v.kind 3 ≡ a → (b : Bool) → ltb 3 v.kind ≡ b → (c : Bool) → ltb (magnitude v.bytes) n ≡ c → (d : Bool)
-        → below (pick a Below (pick b Above (pick c Below (pick d Equal Above)))) ≡ true → Short n v
+        → below (pick a Less (pick b Greater (pick c Less (pick d Equal Greater)))) ≡ true → Short n v
     go true p b q c r d e = other_kind (ltb-true _ _ p)
     go false p true q c r d e = clash e refl
     go false p false q true r d e = smaller (let x = ltb-false v.kind 3 p in let y = ltb-false 3 v.kind q in omega arith) (ltb-true _ _ r)
@@ -50,7 +50,7 @@ reached_means : (n : ℕ) (v : Value) → below (placed n v) ≡ false → Reach
 reached_means n v = go (ltb v.kind 3) refl (ltb 3 v.kind) refl (ltb (magnitude v.bytes) n) refl (eqb (magnitude v.bytes) n)
   where
     go : (a : Bool) → ltb v.kind 3 ≡ a → (b : Bool) → ltb 3 v.kind ≡ b → (c : Bool) → ltb (magnitude v.bytes) n ≡ c → (d : Bool)
-        → below (pick a Below (pick b Above (pick c Below (pick d Equal Above)))) ≡ false → Reached n v
+        → below (pick a Less (pick b Greater (pick c Less (pick d Equal Greater)))) ≡ false → Reached n v
     go true p b q c r d e = clash refl e
     go false p true q c r d e = later_kind (ltb-true _ _ q)
     go false p false q true r d e = clash refl e

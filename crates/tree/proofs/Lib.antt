@@ -44,3 +44,4 @@ pub mod Versions
 pub mod Releases
 pub mod FirstChild
 pub mod Judges
+pub mod Sides

@@ -13,7 +13,7 @@ use Rattle.tree.specs.Bytes.{bytes_from, pick}
 use Rattle.tree.specs.Values.{onward, magnitude, no_zero_first, bytes_before, by_length}
 use Rattle.tree.specs.code.Numbers.{level, side_of, valued, Fit}
 use Rattle.tree.specs.declared.floats.Spelled.{Spelled}
-use Rattle.tree.specs.declared.keys.Side.TheVariants.{Below, Equal, Above}
+use Rattle.std.specs.declared.cmp.Ordering.TheVariants.{Less, Equal, Greater}
 use Rattle.tree.proofs.Search.{clash}
 use Rattle.tree.proofs.Link.{length_from}
 use Rattle.tree.proofs.ValidTable.{bytes_from_fit}
@@ -47,10 +47,10 @@ magnitude_parts t k z o h =
 
 -- ---- against a whole number: by what stands before the zeros, then by the rest
 
-pub side_below : (n k : ℕ) → k < n → side_of n k ≡ Below
+pub side_below : (n k : ℕ) → k < n → side_of n k ≡ Less
 side_below n k h = rw (lt-ltb k n h)
 
-pub side_above : (n k : ℕ) → n < k → side_of n k ≡ Above
+pub side_above : (n k : ℕ) → n < k → side_of n k ≡ Greater
 side_above n k h = rw (le-ltb k n (omega arith), ne_eqb k n (λ e. omega arith))
 
 pub side_equal : (n k : ℕ) → k ≡ n → side_of n k ≡ Equal
@@ -59,23 +59,23 @@ side_equal n k e = rw (le-ltb k n (omega arith), eq-eqb k n e)
 pub equal_side : (n k : ℕ) → side_of n k ≡ Equal → k ≡ n
 equal_side n k = go (ltb k n) (eqb k n) refl
   where
-    go : (a b : Bool) → eqb k n ≡ b → pick a Below (pick b Equal Above) ≡ Equal → k ≡ n
+    go : (a b : Bool) → eqb k n ≡ b → pick a Less (pick b Equal Greater) ≡ Equal → k ≡ n
     go true b q e = clash (ap level e) refl
     go false true q e = eqb-true k n q
     go false false q e = clash (ap level e) refl
 
 -- a is what stands before, b the rest, h the number's head and p what its zeros are worth
 module _ (h p a b : ℕ) (low : b < p) where
-  pub parts_below : a < h → side_of (h * p) (a * p + b) ≡ Below
+  pub parts_below : a < h → side_of (h * p) (a * p + b) ≡ Less
   parts_below l = side_below (h * p) (a * p + b) (let m : suc a * p ≤ h * p = mul-le-mul_right p l in let s : suc a * p ≡ a * p + p = suc-mul a p in omega arith)
 
-  pub parts_above : h < a → side_of (h * p) (a * p + b) ≡ Above
+  pub parts_above : h < a → side_of (h * p) (a * p + b) ≡ Greater
   parts_above l = side_above (h * p) (a * p + b) (let m : suc h * p ≤ a * p = mul-le-mul_right p l in let s : suc h * p ≡ h * p + p = suc-mul h p in omega arith)
 
   pub parts_equal : a ≡ h → b ≡ 0 → side_of (h * p) (a * p + b) ≡ Equal
   parts_equal e z = side_equal (h * p) (a * p + b) (let m : a * p ≡ h * p = ap (λ (x : ℕ). x * p) e in omega arith)
 
-  pub parts_rest : a ≡ h → (b ≡ 0 → ⊥) → side_of (h * p) (a * p + b) ≡ Above
+  pub parts_rest : a ≡ h → (b ≡ 0 → ⊥) → side_of (h * p) (a * p + b) ≡ Greater
   parts_rest e d = side_above (h * p) (a * p + b) (let m : a * p ≡ h * p = ap (λ (x : ℕ). x * p) e in omega arith)
 
 -- k bytes of a file against a whole number as the code has it
@@ -95,7 +95,7 @@ module _ (t : List ℕ) (bytes : (j : ℕ) → get_or t j 0 < 256) (k o : ℕ) (
   unfolding front back
   in_parts h = ap (side_of (valued w)) (sym (magnitude_parts t k w.zeros o h))
 
-  pub file_short : Fit w → k < w.zeros → Below ≡ side_of (valued w) (magnitude (bytes_from k t o))
+  pub file_short : Fit w → k < w.zeros → Less ≡ side_of (valued w) (magnitude (bytes_from k t o))
   file_short f h = sym (side_below (valued w) (magnitude (bytes_from k t o)) (go f.head_high))
     where
       less_than : magnitude (bytes_from k t o) < 256 ^ k
@@ -109,11 +109,11 @@ module _ (t : List ℕ) (bytes : (j : ℕ) → get_or t j 0 < 256) (k o : ℕ) (
           omega (arith, less_than)
 
   module _ (long : w.zeros ≤ k) (a : ℕ) (read : a ≡ min (magnitude (bytes_from (k - w.zeros) t o)) (w.head + 1)) where
-    pub file_below : a < w.head → Below ≡ side_of (valued w) (magnitude (bytes_from k t o))
+    pub file_below : a < w.head → Less ≡ side_of (valued w) (magnitude (bytes_from k t o))
     unfolding front
     file_below h = sym (parts_below w.head (256 ^ w.zeros) front back back_low (omega arith)) ∙ in_parts long
 
-    pub file_above : w.head < a → Above ≡ side_of (valued w) (magnitude (bytes_from k t o))
+    pub file_above : w.head < a → Greater ≡ side_of (valued w) (magnitude (bytes_from k t o))
     unfolding front
     file_above h = sym (parts_above w.head (256 ^ w.zeros) front back back_low (omega arith)) ∙ in_parts long
 
@@ -127,7 +127,7 @@ module _ (t : List ℕ) (bytes : (j : ℕ) → get_or t j 0 < 256) (k o : ℕ) (
     file_equal h l z = sym (parts_equal w.head (256 ^ w.zeros) front back back_low (level_front h l) (omega arith)) ∙ in_parts long
 
     pub file_rest : w.head ≤ a → a ≤ w.head → (min (magnitude (bytes_from w.zeros t (o + (k - w.zeros)))) 1 ≡ 0 → ⊥)
-        → Above ≡ side_of (valued w) (magnitude (bytes_from k t o))
+        → Greater ≡ side_of (valued w) (magnitude (bytes_from k t o))
     unfolding back
     file_rest h l z = sym (parts_rest w.head (256 ^ w.zeros) front back back_low (level_front h l) (λ e. z (omega arith))) ∙ in_parts long
 

@@ -8,13 +8,13 @@ use mathlib.Core.List.{List, [], ◌∷◌}
 use mathlib.Core.Bool.{Bool, true, false, ◌&&◌, ◌||◌}
 use lib.ListN.{length, get_or, set, drop, get_or-eq_default, drop_of_length-le}
 use lib.Seq.{drop-cons, get_or-set_same, get_or-set_other, ext_get_or}
-use lib.Dec.{eqb}
-use borrow.Author.Tests.{lt-ltb, le-ltb, eq-eqb, ne_eqb}
+use lib.Dec.{eqb, leb}
+use borrow.Author.Tests.{lt-ltb, le-ltb, lt-leb, le-leb, eq-eqb, ne_eqb}
 use Rattle.tree.specs.Bytes.{bytes_from, same_bytes, u16_at, node_count, value_count, pick}
 use Rattle.tree.specs.Search.{lowest}
 use Rattle.tree.specs.Values.{onward, offset}
 use Rattle.tree.specs.code.Stages.{value_no}
-use Rattle.tree.specs.Table.{values_from, table_of, no_value, at, listed_from}
+use Rattle.tree.specs.Table.{values_from, table_of, no_value, at, led_by, underscored, listed_from}
 use Rattle.tree.specs.code.Numbers.{below_or, Traits, Starts, KeyNumbers}
 use Rattle.tree.specs.declared.Mode.{Mode}
 
@@ -154,3 +154,17 @@ starts_one t a b g h = ext_get_or 0 a b (g.long ∙ sym h.long) (λ i l. g.at_ea
 
 pub start_at : (t table : List ℕ) → Starts t table → (v : ℕ) → v < 512 → v < value_count t → get_or table v 0 ≡ offset t (node_count t) v
 start_at t table s v h k = s.at_each v h ∙ ap (λ (b : Bool). pick b (offset t (node_count t) v) 0) (lt-ltb v (value_count t) k)
+
+led : (k : ℕ) (t : List ℕ) (o : ℕ) → led_by (bytes_from k t o) ≡ (leb 1 k && eqb (get_or t o 0) 95)
+led zero t o = rw (lt-leb 1 0 (omega arith))
+led (suc k) t o = rw (le-leb 1 (suc k) (omega arith))
+
+joined : (a b d : Bool) → (a && (b && d)) ≡ ((a && b) && d)
+joined true b d = refl
+joined false b d = refl
+
+-- value v, which starts at o, is a name that begins with an underscore
+pub underscore_there : (t : List ℕ) (v o : ℕ) → v < value_count t → o ≡ offset t (node_count t) v
+    → underscored (table_of t) v ≡ ((eqb (get_or t o 0) 0 && leb 1 (u16_at t (o + 1))) && eqb (get_or t (o + 3) 0) 95)
+underscore_there t v o h e =
+    rw (at_table t v h, ← e, led (u16_at t (o + 1)) t (o + 3)) (joined (eqb (get_or t o 0) 0) (leb 1 (u16_at t (o + 1))) (eqb (get_or t (o + 3) 0) 95))

@@ -126,13 +126,6 @@ pub(crate) fn last_at(t: &[u8], i: usize) -> usize
     u16_at(t, start_of(t, i) + 14)
 }
 
-pub(crate) fn narrow(x: usize) -> u16
-    requires { x < 65536 }
-    ensures { result ≡ x }
-{
-    x as u16
-}
-
 pub fn widen(x: u16) -> usize
     ensures { (result ≡ x) × (result < 65536) }
 {

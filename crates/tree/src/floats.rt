@@ -14,82 +14,61 @@ pub(crate) struct Spelled {
     pub(crate) zeros: usize,
 }
 
-// What a float is: a whole number, or none that an integer could be.
-#[derive(Clone, Copy)]
-pub(crate) enum Float {
-    Whole(Spelled),
-    Other,
-}
+// The bit above a float's 52 written digits, which is not written.
+const LEADING: usize = 0x10_0000_0000_0000;
 
-// 2 to the s.
-fn power(s: usize) -> usize
-    requires { s ≤ 52 }
-    ensures { (result ≡ 2 ^ s) × (1 ≤ result) × (result ≤ 4503599627370496) }
-{
-    let mut p = 1;
-    let mut i = 0;
-    while i < s {
-        p = p + p;
-        i += 1;
-    }
-    p
-}
-
-// The float of these digits with the point before the last s of them.
-fn pointed(digits: usize, s: usize) -> Float
+// The float of these digits with the point before the last s of them, if it is whole.
+fn pointed(digits: usize, s: usize) -> Option<Spelled>
     requires { (digits < 9007199254740992) × (s ≤ 52) }
     ensures { (meant result ≡ only_if (eqb (digits % 2 ^ s) 0) (digits / 2 ^ s)) × Fits result }
 {
-    let point = power(s);
+    let point = 1 << s;
     if digits % point == 0 {
-        return Float::Whole(Spelled {
+        Some(Spelled {
             head: digits / point,
             zeros: 0,
-        });
+        })
+    } else {
+        None
     }
-    Float::Other
 }
 
 // The float of these digits with s zero digits after them: 8 of them are a byte.
-fn shifted(digits: usize, s: usize) -> Float
+fn shifted(digits: usize, s: usize) -> Spelled
     requires { (4503599627370496 ≤ digits) × (digits < 9007199254740992) × (s < 1000) }
-    ensures { (meant result ≡ some (digits * 2 ^ s)) × Fits result }
+    ensures { (valued result ≡ digits * 2 ^ s) × Fit result }
 {
-    Float::Whole(Spelled {
-        head: digits * power(s % 8),
+    Spelled {
+        head: digits << (s % 8),
         zeros: s / 8,
-    })
+    }
 }
 
-// The float of these 64 bits. The exponent's field is 1023 for 1.0, 1075 where no digit stands behind the point, 2047 for an infinity.
-pub(crate) fn float_of(b: usize) -> Float
+// The float of these 64 bits, if it is a whole number. The exponent's field is 1023 for 1.0, 1075 where no digit stands behind the point,
+// 2047 for an infinity.
+pub(crate) fn float_of(b: usize) -> Option<Spelled>
     ensures { (meant result ≡ whole b) × Fits result }
 {
     if b == 0 {
-        return Float::Whole(Spelled { head: 0, zeros: 0 });
+        return Some(Spelled { head: 0, zeros: 0 });
     }
-    let field = b / 4503599627370496;
-    if field < 1023 {
-        return Float::Other;
+    let field = b / LEADING;
+    if field < 1023 || 2046 < field {
+        return None;
     }
-    if 2046 < field {
-        return Float::Other;
-    }
-    let digits = 4503599627370496 + b % 4503599627370496;
+    let digits = LEADING + b % LEADING;
     if field <= 1075 {
-        return pointed(digits, 1075 - field);
+        pointed(digits, 1075 - field)
+    } else {
+        Some(shifted(digits, field - 1075))
     }
-    shifted(digits, field - 1075)
 }
 
 fn is_i32(w: Spelled) -> bool
     requires { Fit w }
     ensures { result ≡ counts Ordinary (valued w) }
 {
-    if w.zeros == 0 {
-        return w.head < 2147483648;
-    }
-    false
+    w.zeros == 0 && w.head < 2147483648
 }
 
 // A float that is this whole number counts as the integer.

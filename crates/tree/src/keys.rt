@@ -7,99 +7,56 @@ ghost use Rattle.tree.specs.Values.{magnitude, value_from};
 ghost use Rattle.tree.specs.Keys.{whole, counted};
 ghost use Rattle.tree.specs.Table.{table_of};
 ghost use Rattle.tree.specs.code.Halving.{halved};
-ghost use Rattle.tree.specs.code.Numbers.{below, level, side_of, placed, short_of, lead, key_number, OwnNumbers, KeyNumbers, valued, Fit, Starts, like_by};
+ghost use Rattle.tree.specs.code.Numbers.{side_of, placed, short_of, lead, key_number, OwnNumbers, KeyNumbers, valued, Fit, Starts, like_by};
 
-use crate::bytes::{byte_at, narrow, u16_at, u64_at, widen};
-use crate::floats::{Float, Spelled, counts_in, float_of};
+use crate::bytes::{byte_at, u16_at, u64_at};
+use crate::floats::{Spelled, counts_in, float_of};
+use crate::kinds::ValueKind;
 use crate::lookup::{few_values, starts};
 use crate::{Likeness, Mode};
-
-// Where a value stands against a whole number.
-#[derive(Clone, Copy)]
-pub(crate) enum Side {
-    Below,
-    Equal,
-    Above,
-}
-
-impl Side {
-    fn is_below(self) -> bool
-        ensures { result ≡ below self }
-    {
-        match self {
-            Side::Below => true,
-            Side::Equal => false,
-            Side::Above => false,
-        }
-    }
-
-    fn is_equal(self) -> bool
-        ensures { result ≡ level self }
-    {
-        match self {
-            Side::Below => false,
-            Side::Equal => true,
-            Side::Above => false,
-        }
-    }
-}
+use std::cmp::Ordering;
 
 // The magnitude of the k bytes from o on, high byte first, where it is at most x; else x + 1.
 fn leading(t: &[u8], k: usize, o: usize, x: usize) -> usize
     requires { (k < 65536) × (o < 4400000000) × (x < 1152921504606846976) }
     ensures { result ≡ min (magnitude (bytes_from k t.now o)) (x + 1) }
 {
-    let most = x / 256;
     let mut a = 0;
-    let mut i = 0;
-    while i < k {
-        if most < a {
+    for i in 0..k {
+        if x / 256 < a {
             return x + 1;
         }
         a = a * 256 + byte_at(t, o + i);
-        i += 1;
     }
-    if x < a {
-        return x + 1;
-    }
-    a
+    a.min(x + 1)
 }
 
 // The magnitude of the k bytes from o on against w, byte by byte.
-pub(crate) fn bytes_side(t: &[u8], k: usize, o: usize, w: Spelled) -> Side
+pub(crate) fn bytes_side(t: &[u8], k: usize, o: usize, w: Spelled) -> Ordering
     requires { (k < 65536) × (o < 4300000003) × Fit w }
     ensures { result ≡ side_of (valued w) (magnitude (bytes_from k t.now o)) }
 {
     if k < w.zeros {
-        return Side::Below;
+        return Ordering::Less;
     }
     let first = k - w.zeros;
-    let a = leading(t, first, o, w.head);
-    if a < w.head {
-        return Side::Below;
+    match leading(t, first, o, w.head).cmp(&w.head) {
+        Ordering::Equal => leading(t, w.zeros, o + first, 0).cmp(&0),
+        unlike => unlike,
     }
-    if w.head < a {
-        return Side::Above;
-    }
-    if leading(t, w.zeros, o + first, 0) == 0 {
-        return Side::Equal;
-    }
-    Side::Above
 }
 
 // The value at o against w: other kinds stand before the integers, or behind them.
-fn value_side(t: &[u8], o: usize, w: Spelled) -> Side
+fn value_side(t: &[u8], o: usize, w: Spelled) -> Ordering
     requires { (o < 4300000000) × Fit w }
     ensures { result ≡ placed (valued w) (value_from t.now o) }
 {
     let kind = byte_at(t, o);
-    if kind < 3 {
-        return Side::Below;
+    if kind == ValueKind::Integer as usize {
+        bytes_side(t, u16_at(t, o + 1), o + 3, w)
+    } else {
+        kind.cmp(&(ValueKind::Integer as usize))
     }
-    if 3 < kind {
-        return Side::Above;
-    }
-    bytes_side(t, u16_at(t, o + 1), o + 3, w)
 }
 
 // By halving: the first of the n values that isn't below w; n where there is none.
@@ -111,10 +68,9 @@ fn place(t: &[u8], starts: &[usize; 512], n: usize, w: Spelled) -> usize
     let mut left = n;
     while 0 < left {
         let half = left / 2;
-        let s = value_side(t, starts[lo + half], w);
-        if s.is_below() {
-            lo = lo + half + 1;
-            left = left - half - 1;
+        if value_side(t, starts[lo + half], w).is_lt() {
+            lo += half + 1;
+            left -= half + 1;
         } else {
             left = half;
         }
@@ -122,17 +78,17 @@ fn place(t: &[u8], starts: &[usize; 512], n: usize, w: Spelled) -> usize
     lo
 }
 
-// The integer w among the values before v; v where there is none.
+// The integer w among the values before v; v where there is none, which then stands for itself.
 fn integer_number(t: &[u8], starts: &[usize; 512], v: usize, w: Spelled) -> usize
     requires { Starts t.now starts.now × (v < 512) × (v < value_count t.now) × Fit w }
     ensures { (result ≡ lead (table_of t.now) v (some (valued w))) × (result < 65536) }
 {
     let p = place(t, starts, v, w);
-    let s = value_side(t, starts[p], w);
-    if s.is_equal() {
-        return p;
+    if value_side(t, starts[p], w).is_eq() {
+        p
+    } else {
+        v
     }
-    v
 }
 
 // What stands for the float of these 64 bits, value v.
@@ -141,13 +97,14 @@ fn float_key(t: &[u8], starts: &[usize; 512], mode: Mode, v: usize, b: usize) ->
     ensures { (result ≡ lead (table_of t.now) v (counted mode (whole b))) × (result < 65536) }
 {
     let f = float_of(b);
-    let Float::Whole(w) = f else {
+    let Some(w) = f else {
         return v;
     };
     if counts_in(mode, w) {
-        return integer_number(t, starts, v, w);
+        integer_number(t, starts, v, w)
+    } else {
+        v
     }
-    v
 }
 
 // What stands for value v.
@@ -156,13 +113,11 @@ fn key_at(t: &[u8], starts: &[usize; 512], mode: Mode, v: usize) -> usize
     ensures { (result ≡ key_number mode (table_of t.now) v) × (result < 65536) }
 {
     let o = starts[v];
-    if byte_at(t, o) != 4 {
-        return v;
+    if byte_at(t, o) == ValueKind::Float as usize && u16_at(t, o + 1) == 8 {
+        float_key(t, starts, mode, v, u64_at(t, o + 3))
+    } else {
+        v
     }
-    if u16_at(t, o + 1) != 8 {
-        return v;
-    }
-    float_key(t, starts, mode, v, u64_at(t, o + 3))
 }
 
 // Each value number below 512, standing for itself.
@@ -170,10 +125,8 @@ fn own_numbers() -> [u16; 512]
     ensures { OwnNumbers result }
 {
     let mut keys = [0u16; 512];
-    let mut v = 0;
-    while v < 512 {
-        keys[v] = narrow(v);
-        v += 1;
+    for v in 0..512 {
+        keys[v] = v as u16;
     }
     keys
 }
@@ -184,11 +137,8 @@ pub fn key_numbers(t: &[u8], mode: Mode) -> [u16; 512]
 {
     let mut keys = own_numbers();
     let starts = starts(t);
-    let few = few_values(t);
-    let mut v = 0;
-    while v < few {
-        keys[v] = narrow(key_at(t, &starts, mode, v));
-        v += 1;
+    for v in 0..few_values(t) {
+        keys[v] = key_at(t, &starts, mode, v) as u16;
     }
     keys
 }
@@ -197,10 +147,10 @@ pub fn key_numbers(t: &[u8], mode: Mode) -> [u16; 512]
 fn entry_of(numbers: &[u16], v: usize) -> usize
     ensures { result ≡ get_or numbers.now v 0 }
 {
-    if v < numbers.len() {
-        return widen(numbers[v]);
+    match numbers.get(v) {
+        Some(number) => usize::from(*number),
+        None => 0,
     }
-    0
 }
 
 // The key test of values a and b, by the table of key_numbers: a valid file has no value twice, so the same form is one value number.
@@ -208,10 +158,10 @@ pub fn like(numbers: &[u16], a: usize, b: usize) -> Likeness
     ensures { result ≡ like_by numbers.now a b }
 {
     if a == b {
-        return Likeness::SameForm;
+        Likeness::SameForm
+    } else if entry_of(numbers, a) == entry_of(numbers, b) {
+        Likeness::SameNumber
+    } else {
+        Likeness::Different
     }
-    if entry_of(numbers, a) == entry_of(numbers, b) {
-        return Likeness::SameNumber;
-    }
-    Likeness::Different
 }

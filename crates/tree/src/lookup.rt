@@ -8,6 +8,7 @@ ghost use Rattle.tree.specs.Table.{listed, table_of, named_so, underscored, a_st
 ghost use Rattle.tree.specs.code.Numbers.{number_named, Traits, Starts};
 
 use crate::bytes::{byte_at, bytes_are, global_count, node_count, u16_at, value_count};
+use crate::kinds::ValueKind;
 use crate::values::offset_of;
 
 // The value at o is the name of these bytes.
@@ -15,28 +16,22 @@ fn spelled_at(t: &[u8], o: usize, name: &[u8]) -> bool
     requires { o < 4300000000 }
     ensures { result ≡ named_so name.now (value_from t.now o) }
 {
-    if byte_at(t, o) != 0 {
-        return false;
-    }
-    if u16_at(t, o + 1) != name.len() {
-        return false;
-    }
-    bytes_are(t, o + 3, name)
+    byte_at(t, o) == ValueKind::Name as usize
+        && u16_at(t, o + 1) == name.len()
+        && bytes_are(t, o + 3, name)
 }
 
 // The number of the name of these bytes; 65536, which is no value's number, where the file has no such name.
+// Kept: that number, and no Option: its contract's number_named has it, and so have the promises of the crates above.
 pub fn number_of(t: &[u8], name: &[u8]) -> usize
     ensures { result ≡ number_named t.now name.now }
 {
-    let nv = value_count(t);
     let mut at = 11 + 16 * node_count(t);
-    let mut v = 0;
-    while v < nv {
+    for v in 0..value_count(t) {
         if spelled_at(t, at, name) {
             return v;
         }
-        at = at + 3 + u16_at(t, at + 1);
-        v += 1;
+        at += 3 + u16_at(t, at + 1);
     }
     65536
 }
@@ -45,11 +40,7 @@ pub fn number_of(t: &[u8], name: &[u8]) -> usize
 pub(crate) fn few_values(t: &[u8]) -> usize
     ensures { result ≡ min (value_count t.now) 512 }
 {
-    let nv = value_count(t);
-    if nv < 512 {
-        return nv;
-    }
-    512
+    value_count(t).min(512)
 }
 
 // Where each value starts; 0 past the last.
@@ -57,32 +48,25 @@ pub fn starts(t: &[u8]) -> [usize; 512]
     ensures { Starts t.now result }
 {
     let mut table = [0usize; 512];
-    let few = few_values(t);
     let mut at = 11 + 16 * node_count(t);
-    let mut v = 0;
-    while v < few {
+    for v in 0..few_values(t) {
         table[v] = at;
-        at = at + 3 + u16_at(t, at + 1);
-        v += 1;
+        at += 3 + u16_at(t, at + 1);
     }
     table
 }
 
-// Value v, which starts at o, is a name that begins with an underscore.
-fn underscored_at(t: &[u8], v: usize, o: usize) -> bool
-    requires { (o < 4300000000) × (o ≡ offset t.now (node_count t.now) v) }
+// Value v is a name that begins with an underscore.
+pub fn begins_underscore(t: &[u8], v: usize) -> bool
     ensures { result ≡ underscored (table_of t.now) v }
 {
     if value_count(t) <= v {
         return false;
     }
-    if byte_at(t, o) != 0 {
-        return false;
-    }
-    if u16_at(t, o + 1) < 1 {
-        return false;
-    }
-    byte_at(t, o + 3) == 95
+    let o = offset_of(t, node_count(t), v);
+    byte_at(t, o) == ValueKind::Name as usize
+        && 1 <= u16_at(t, o + 1)
+        && byte_at(t, o + 3) == usize::from(b'_')
 }
 
 // Value v, which starts at o, is a string.
@@ -90,19 +74,7 @@ fn string_at(t: &[u8], v: usize, o: usize) -> bool
     requires { (o < 4300000000) × (o ≡ offset t.now (node_count t.now) v) }
     ensures { result ≡ a_string (table_of t.now) v }
 {
-    if value_count(t) <= v {
-        return false;
-    }
-    byte_at(t, o) == 1
-}
-
-pub fn begins_underscore(t: &[u8], v: usize) -> bool
-    ensures { result ≡ underscored (table_of t.now) v }
-{
-    if value_count(t) <= v {
-        return false;
-    }
-    underscored_at(t, v, offset_of(t, node_count(t), v))
+    v < value_count(t) && byte_at(t, o) == ValueKind::String as usize
 }
 
 // Which of the values below 512 are strings.
@@ -111,11 +83,9 @@ pub fn strings(t: &[u8]) -> [bool; 512]
 {
     let mut table = [false; 512];
     let mut at = 11 + 16 * node_count(t);
-    let mut v = 0;
-    while v < 512 {
+    for v in 0..512 {
         table[v] = string_at(t, v, at);
-        at = at + 3 + u16_at(t, at + 1);
-        v += 1;
+        at += 3 + u16_at(t, at + 1);
     }
     table
 }

@@ -1,33 +1,19 @@
-use Rattle.std.specs.Prelude.{Ok}
+use mathlib.Core.Path.{◌≡◌, refl, sym, ap, subst, ◌∙◌}
+use mathlib.Core.List.{List}
 use native.Mathlib.Omega.{arith}
-use Prim.Native.Nat.{◌/◌, ◌<◌, ◌≤◌}
-use mathlib.Core.Path.{◌≡◌, sym, ap, ◌∙◌}
+use Prim.Native.Nat.{◌≤◌}
 use lib.ListN.{length}
-use Rattle.tree.specs.Judge.{judged}
-use Rattle.rules.specs.Record.{width}
-use Rattle.rules.specs.Flow.{flow_list}
-use Rattle.answer.specs.Page.{writes}
-use Rattle.answer.proofs.Whole.{no_front, short_done, listed_done}
+use Rattle.rules.specs.Record.{Rec}
+use Rattle.rules.specs.Calls.{done}
 use Rattle.flow.proofs.ListIs.{list_is, list_few}
 use Rattle.flow.proofs.lint_valid.Goals as goal
 
-pub returns-then-out-records : goal.returns-then-out-records
-returns-then-out-records c =
-    let t = c.args.t.now in
-    let o = c.args.out.now in
-    let v : judged t ≡ Ok c.args.f = c.requires in
-    let q = no_front c.lint-c.new.out o (omega (arith, c.lint-c.auto.out)) in
-    let h : length o / width < c.lint-c.result.count = rw q at c.if-out-records.true in
-    let l = list_is t _ v (λ k. omega (arith, c.shared_slice_known-1.given k)) c.number_of-fail.result c.number_of-none.result c.strings-texts.result c.number_of-fail.ensures c.number_of-none.ensures c.strings-texts.ensures in
-    let z = short_done t _ v (flow_list t) (list_few t _ v) o c.args.tally _ _ c.started.result c.lint-c.result c.started.ensures.0 (c.lint-c.ensures ∙ ap (writes _) (sym l)) c.refused.result h c.refused.ensures.0 c.refused.ensures.1 in
-    rw q z
+pub answered-requires : goal.answered-requires
+answered-requires c =
+    let l = list_is c.args.t.now c.args.f c.requires (λ k. omega (arith, c.type_inv.t k)) c.number_of.result c.number_of-2.result c.strings.result c.number_of.ensures c.number_of-2.ensures c.strings.ensures in
+    (record { facts = c.args.f; valid = c.requires; nodes = refl }, subst (λ (rs : List Rec). length rs ≤ 18446744073709551615) l (list_few c.args.t.now c.args.f c.requires))
 
 pub returns : goal.returns
 returns c =
-    let t = c.args.t.now in
-    let o = c.args.out.now in
-    let v : judged t ≡ Ok c.args.f = c.requires in
-    let q = no_front c.lint-c.new.out o (omega (arith, c.lint-c.auto.out)) in
-    let h : c.lint-c.result.count ≤ length o / width = rw q at c.if-out-records.false in
-    let l = list_is t _ v (λ k. omega (arith, c.shared_slice_known-1.given k)) c.number_of-fail.result c.number_of-none.result c.strings-texts.result c.number_of-fail.ensures c.number_of-none.ensures c.strings-texts.ensures in
-    listed_done t _ v (flow_list t) (list_few t _ v) o c.args.tally _ _ c.started.result c.lint-c.result c.started.ensures.0 (c.lint-c.ensures ∙ ap (writes _) (sym l)) c.listed.result _ c.started-2.result c.lint.result h c.started-2.ensures.0 c.started-2.ensures.1 ((rw q at c.lint.ensures) ∙ ap (writes _) (sym l)) c.listed.ensures.0 c.listed.ensures.1
+    let l = list_is c.args.t.now c.args.f c.requires (λ k. omega (arith, c.type_inv.t k)) c.number_of.result c.number_of-2.result c.strings.result c.number_of.ensures c.number_of-2.ensures c.strings.ensures in
+    c.answered.ensures.answers c.args.t.now c.args.f c.requires ∙ ap (λ (rs : List Rec). done rs c.args.t.now c.args.out.now c.args.tally) (sym l)

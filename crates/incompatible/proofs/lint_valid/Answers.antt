@@ -1,48 +1,23 @@
 use Rattle.std.specs.Prelude.{Ok}
 use native.Mathlib.Omega.{arith}
-use Prim.Native.Nat.{◌/◌, ◌<◌, ◌≤◌}
-use mathlib.Core.Path.{◌≡◌, sym, ap, ◌∙◌}
-use lib.ListN.{length}
+use Prim.Native.Nat.{ℕ, ◌<◌}
+use mathlib.Core.Path.{◌≡◌, sym}
+use lib.ListN.{get_or}
 use Rattle.tree.specs.Judge.{judged}
 use Rattle.tree.proofs.Whole.{whole}
-use Rattle.rules.specs.Record.{width}
-use Rattle.rules.specs.Incompatible.{incompatible_list}
-use Rattle.answer.specs.Page.{writes}
-use Rattle.answer.proofs.Whole.{no_front, short_done, listed_done}
 use Rattle.incompatible.proofs.Valid.{low_names, list_is, list_few}
 use Rattle.incompatible.proofs.lint_valid.Goals as goal
 
-pub lint-c-requires : goal.lint-c-requires
-lint-c-requires c =
+pub answered-requires : goal.answered-requires
+answered-requires c =
     let t = c.args.t.now in
-    let v = c.requires in
-    (whole t _ v, low_names t _ v)
-
-pub returns-then-out-records : goal.returns-then-out-records
-returns-then-out-records c =
-    let t = c.args.t.now in
-    let o = c.args.out.now in
     let v : judged t ≡ Ok c.args.f = c.requires in
-    let q = no_front c.lint-c.new.out o (omega (arith, c.lint-c.auto.out)) in
-    let h : length o / width < c.lint-c.result.count = rw q at c.if-out-records.true in
-    let l = rw (← c.of-allowed.ensures) at (list_is t _ v (λ k. omega (arith, c.shared_slice_known-1.given k)) c.types_of-names.result c.types_of-names.ensures) in
-    let few = list_few t _ v in
-    let z = short_done t _ v (incompatible_list t) few o c.args.tally _ _ c.started.result c.lint-c.result c.started.ensures.0 (c.lint-c.ensures ∙ ap (writes _) (sym l)) c.refused.result h c.refused.ensures.0 c.refused.ensures.1 in
-    rw q z
-
-pub lint-requires : goal.lint-requires
-lint-requires c =
-    let t = c.args.t.now in
-    let v = c.requires in
-    (whole t _ v, low_names t _ v)
+    let bytes : (k : ℕ) → get_or t k 0 < 256 = λ k. omega (arith, c.type_inv.t k) in
+    ((whole t _ v, low_names t _ v), rw (c.of-2.ensures, sym (list_is t _ v bytes c.of.result c.of.ensures)) (list_few t _ v))
 
 pub returns : goal.returns
 returns c =
     let t = c.args.t.now in
-    let o = c.args.out.now in
     let v : judged t ≡ Ok c.args.f = c.requires in
-    let q = no_front c.lint-c.new.out o (omega (arith, c.lint-c.auto.out)) in
-    let h : c.lint-c.result.count ≤ length o / width = rw q at c.if-out-records.false in
-    let l = rw (← c.of-allowed.ensures) at (list_is t _ v (λ k. omega (arith, c.shared_slice_known-1.given k)) c.types_of-names.result c.types_of-names.ensures) in
-    let few = list_few t _ v in
-    listed_done t _ v (incompatible_list t) few o c.args.tally _ _ c.started.result c.lint-c.result c.started.ensures.0 (c.lint-c.ensures ∙ ap (writes _) (sym l)) c.listed.result _ c.started-2.result c.lint.result h c.started-2.ensures.0 c.started-2.ensures.1 ((rw q at c.lint.ensures) ∙ ap (writes _) (sym l)) c.listed.ensures.0 c.listed.ensures.1
+    let bytes : (k : ℕ) → get_or t k 0 < 256 = λ k. omega (arith, c.type_inv.t k) in
+    rw (list_is t _ v bytes c.of.result c.of.ensures) (rw c.of-2.ensures at c.answered.ensures.answers t c.args.f v)

@@ -14,6 +14,6 @@ closed-requires c = goes_fits c.visit-s.ensures
 pub returns : goal.returns
 returns c = (
   c.closed.ensures.2,
-  walked_out (methods _) c.new.ensures (goes_as (module_as _ _ c.number_of-f.ensures) c.visit-s.ensures) c.requires.0.room c.requires.0.few
+  walked_out (methods _) c.new.ensures (goes_as (module_as _ _ c.number_of-fail.ensures) c.visit-s.ensures) c.requires.0.room c.requires.0.few
       c.closed.ensures.0 c.closed.ensures.1,
 )

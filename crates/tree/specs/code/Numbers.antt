@@ -10,10 +10,9 @@ use Rattle.tree.specs.code.Halving.{halved}
 use Rattle.tree.specs.declared.Mode.{Mode}
 use Rattle.tree.specs.declared.Likeness.{Likeness}
 use Rattle.tree.specs.declared.floats.Spelled.{Spelled}
-use Rattle.tree.specs.declared.floats.Float.{Float}
-use Rattle.tree.specs.declared.floats.Float.TheVariants.{Whole, Other}
-use Rattle.tree.specs.declared.keys.Side.{Side}
-use Rattle.tree.specs.declared.keys.Side.TheVariants.{Below, Equal, Above}
+use Rattle.std.specs.Prelude.{Option as Maybe, Some, None}
+use Rattle.std.specs.declared.cmp.Ordering.{Ordering}
+use Rattle.std.specs.declared.cmp.Ordering.TheVariants.{Less, Equal, Greater}
 
 -- a place, if it is below n
 abbrev pub below_or : ℕ → ℕ → ℕ → ℕ
@@ -51,9 +50,9 @@ float_number m v = if_so (eqb v.kind 4 && eqb (length v.bytes) 8) (counted m (wh
 abbrev pub valued : Spelled → ℕ
 valued w = w.head * 256 ^ w.zeros
 
-abbrev pub meant : Float → Option ℕ
-meant (Whole w) = some (valued w)
-meant Other = none
+abbrev pub meant : Maybe Spelled → Option ℕ
+meant (Some w) = some (valued w)
+meant None = none
 
 -- one byte more than the head fits into 64 bits; only a head of 53 digits or more has zeros
 pub record Fit (w : Spelled) : Type 0 where
@@ -61,26 +60,26 @@ pub record Fit (w : Spelled) : Type 0 where
   pub zeros_low : w.zeros < 128
   pub head_high : (w.zeros ≡ 0) ⊎ (2 ^ 52 ≤ w.head)
 
-abbrev pub Fits : Float → Type 0
-Fits (Whole w) = Fit w
-Fits Other = Unit
+abbrev pub Fits : Maybe Spelled → Type 0
+Fits (Some w) = Fit w
+Fits None = Unit
 
-abbrev pub below : Side → Bool
-below Below = true
+abbrev pub below : Ordering → Bool
+below Less = true
 below Equal = false
-below Above = false
+below Greater = false
 
-abbrev pub level : Side → Bool
-level Below = false
+abbrev pub level : Ordering → Bool
+level Less = false
 level Equal = true
-level Above = false
+level Greater = false
 
-abbrev pub side_of : ℕ → ℕ → Side
-side_of n k = pick (ltb k n) Below (pick (eqb k n) Equal Above)
+abbrev pub side_of : ℕ → ℕ → Ordering
+side_of n k = pick (ltb k n) Less (pick (eqb k n) Equal Greater)
 
 -- where a value stands to the integer n: other kinds before the integers, or behind them
-abbrev pub placed : ℕ → Value → Side
-placed n v = pick (ltb v.kind 3) Below (pick (ltb 3 v.kind) Above (side_of n (magnitude v.bytes)))
+abbrev pub placed : ℕ → Value → Ordering
+placed n v = pick (ltb v.kind 3) Less (pick (ltb 3 v.kind) Greater (side_of n (magnitude v.bytes)))
 
 -- value number u stands before the integer n
 abbrev pub short_of : List Value → ℕ → ℕ → Bool

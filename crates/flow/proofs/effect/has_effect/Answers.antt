@@ -5,15 +5,9 @@ use Rattle.flow.specs.Walks.{is_text}
 use Rattle.flow.proofs.Steps.{effect_past, effect_hit, effect_miss, inside_after}
 use Rattle.flow.proofs.effect.has_effect.Goals as goal
 
-pub loop-j-init : goal.loop-j-init
-loop-j-init c = (c.requires, refl)
-
 pub returns-then-acts : goal.returns-then-acts
 returns-then-acts c =
     effect_hit c.args.strings.now c.loop-j.invariant.0 c.loop-j-test.true (sym c.acts.ensures ∙ c.if-acts.true) ∙ sym c.loop-j.invariant.1
-
-pub inward-j-requires : goal.inward-j-requires
-inward-j-requires c = omega (arith, c.loop-j.invariant.0.few, c.loop-j-test.true)
 
 pub loop-j-smaller : goal.loop-j-smaller
 loop-j-smaller c =

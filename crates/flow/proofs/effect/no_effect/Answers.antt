@@ -6,14 +6,11 @@ use Rattle.flow.proofs.Steps.{whole_at, stated_valid, idle_past, idle_next, past
 use Rattle.flow.proofs.effect.no_effect.Goals as goal
 
 pub loop-i-init : goal.loop-i-init
-loop-i-init c = ((tidy_valid c.requires).part, going _ _ _)
+loop-i-init c = ((tidy_valid c.requires).part, going _ _)
 
-pub idle-r-requires : goal.idle-r-requires
-idle-r-requires c =
+pub idle-requires : goal.idle-requires
+idle-requires c =
     (whole_at c.loop-i.invariant.0 c.loop-i-test.true, stated_valid c.requires c.loop-i.i c.loop-i-test.true)
-
-pub next-i-requires : goal.next-i-requires
-next-i-requires c = omega (arith, c.loop-i.invariant.0.few, c.loop-i-test.true)
 
 pub loop-i-smaller : goal.loop-i-smaller
 loop-i-smaller c =
@@ -21,10 +18,7 @@ loop-i-smaller c =
 
 pub loop-i-preserved : goal.loop-i-preserved
 loop-i-preserved c =
-    rw c.next-i.ensures (later c.loop-i.invariant.0 (omega (arith, past_after 5 c.args.t.now c.loop-i.i (sized c.loop-i.invariant.0 c.loop-i-test.true))), going_on c.loop-i.invariant.1 _ _ _ _ c.idle-r.ensures (idle_next c.args.strings.now c.loop-i.invariant.0 c.loop-i-test.true))
-
-pub shape_of-out : goal.shape_of-out
-shape_of-out c = c.loop-i.invariant.1.long
+    rw c.next-i.ensures (later c.loop-i.invariant.0 (omega (arith, past_after 5 c.args.t.now c.loop-i.i (sized c.loop-i.invariant.0 c.loop-i-test.true))), going_on c.loop-i.invariant.1 _ _ c.idle.ensures (idle_next c.args.strings.now c.loop-i.invariant.0 c.loop-i-test.true))
 
 pub returns : goal.returns
 returns c =

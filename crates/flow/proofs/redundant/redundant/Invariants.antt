@@ -1,4 +1,3 @@
-use Prim.Native.Nat.{◌-◌}
 use Rattle.tree.specs.Forest.{forest_of}
 use Rattle.tree.specs.code.Part.{Part}
 use Rattle.rules.specs.Flow.{redundant_walk}
@@ -6,7 +5,4 @@ use Rattle.answer.proofs.Flat.{Going}
 use Rattle.flow.proofs.redundant.redundant.Given as goal
 
 abbrev pub invariant-loop-i : goal.invariant-loop-i
-invariant-loop-i l = Part l.t l.i l.n × Going l.initial.out l.initial.r (redundant_walk (forest_of l.t 1 l.n)) l.out l.r (redundant_walk (forest_of l.t l.i l.n))
-
-abbrev pub decreases-loop-i : goal.decreases-loop-i
-decreases-loop-i l = l.n - l.i
+invariant-loop-i l = Part l.t l.i l.n × Going l.initial.sheet (redundant_walk (forest_of l.t 1 l.n)) l.sheet (redundant_walk (forest_of l.t l.i l.n))

@@ -6,7 +6,7 @@ use Rattle.flow.specs.Returns.{Tidy}
 use Rattle.flow.proofs.returns.bare_returns.Given as goal
 
 abbrev pub invariant-loop-j : goal.invariant-loop-j
-invariant-loop-j l = Tidy l.t l.j l.e × Going l.initial.out l.initial.r (bare_recs (node_head l.t l.i) (node_spot l.t l.name) (node_head l.t l.why) (returns_in everything (forest_of l.t l.b l.e))) l.out l.r (bare_recs (node_head l.t l.i) (node_spot l.t l.name) (node_head l.t l.why) (returns_in everything (forest_of l.t l.j l.e)))
+invariant-loop-j l = Tidy l.t l.j l.e × Going l.initial.sheet (bare_recs (node_head l.t l.d.at) (node_spot l.t l.d.name) (node_head l.t l.d.why) (returns_in everything (forest_of l.t l.b l.e))) l.sheet (bare_recs (node_head l.t l.d.at) (node_spot l.t l.d.name) (node_head l.t l.d.why) (returns_in everything (forest_of l.t l.j l.e)))
 
 abbrev pub decreases-loop-j : goal.decreases-loop-j
 decreases-loop-j l = l.e - l.j

@@ -1,11 +1,8 @@
 use native.Mathlib.Omega.{arith}
-use mathlib.Core.Path.{refl, sym, ◌∙◌}
+use mathlib.Core.Path.{sym, ◌∙◌}
 use Rattle.tree.proofs.Laws.{sized}
 use Rattle.flow.proofs.ReturnsLaws.{tidy_later, tidy_whole, step_some, valued_here, valued_next, valued_end}
 use Rattle.flow.proofs.returns.first_valued.Goals as goal
-
-pub loop-j-init : goal.loop-j-init
-loop-j-init c = (c.requires, refl)
 
 pub is_valued_return-requires : goal.is_valued_return-requires
 is_valued_return-requires c = tidy_whole c.loop-j.invariant.0 c.loop-j-test.true

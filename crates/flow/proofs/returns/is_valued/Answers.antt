@@ -4,4 +4,4 @@ use Rattle.flow.proofs.returns.is_valued.Goals as goal
 
 pub returns : goal.returns
 returns c =
-    rw (c.child_of.ensures, c.size_at.ensures.0) (has_child 4 (whole_kids c.requires) (omega (arith, c.requires.some)))
+    rw (c.is_some.ensures, c.child_of.ensures, c.size_at.ensures.0) (has_child 4 (whole_kids c.requires) (omega (arith, c.requires.some)))

@@ -5,23 +5,11 @@ use Rattle.flow.proofs.ReturnsLaws.{tidy_later, tidy_first, walk_next, walk_past
 use Rattle.flow.proofs.returns.stmt.Goals as goal
 
 pub loop-i-init : goal.loop-i-init
-loop-i-init c = (c.requires, going _ _ _)
-
-pub check_stmt-r-requires : goal.check_stmt-r-requires
-check_stmt-r-requires c = tidy_first c.loop-i.invariant.0 c.loop-i-test.true
-
-pub overflow_add-i : goal.overflow_add-i
-overflow_add-i c = omega (arith, c.loop-i.invariant.0.part.few, c.loop-i-test.true)
-
-pub loop-i-smaller : goal.loop-i-smaller
-loop-i-smaller c = omega (arith, c.loop-i-test.true)
+loop-i-init c = (c.requires, going _ _)
 
 pub loop-i-preserved : goal.loop-i-preserved
 loop-i-preserved c =
-    (tidy_later c.loop-i.invariant.0 (omega arith), going_on c.loop-i.invariant.1 _ _ _ _ c.check_stmt-r.ensures (walk_next (λ v. eqb v c.args.fail) (λ v. eqb v c.args.none) c.loop-i.invariant.0.part c.loop-i-test.true))
-
-pub shape_of-out : goal.shape_of-out
-shape_of-out c = c.loop-i.invariant.1.long
+    (tidy_later c.loop-i.invariant.0 (omega arith), going_on c.loop-i.invariant.1 _ _ c.check_stmt.ensures (walk_next (λ v. eqb v c.args.fail) (λ v. eqb v c.args.none) c.loop-i.invariant.0.part c.loop-i-test.true))
 
 pub returns : goal.returns
 returns c =

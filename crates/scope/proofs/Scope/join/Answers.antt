@@ -1,4 +1,4 @@
-use mathlib.Core.Path.{◌≡◌, refl, ◌∙◌}
+use mathlib.Core.Path.{◌≡◌, refl}
 use Rattle.std.specs.Ordering.{ord_min}
 use Rattle.scope.specs.Words.{join_scope, smaller_of}
 use Rattle.scope.specs.contracts.AbortOrd.TheImpl.{cmp-value}

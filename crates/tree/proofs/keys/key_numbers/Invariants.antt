@@ -8,7 +8,4 @@ use Rattle.tree.specs.code.Numbers.{key_number}
 use Rattle.tree.proofs.keys.key_numbers.Given as goal
 
 abbrev pub invariant-loop-v : goal.invariant-loop-v
-invariant-loop-v l = (l.v ≤ l.few) × (length l.keys ≡ 512) × ((k : ℕ) → k < 512 → get_or l.keys k 0 ≡ pick (ltb k l.v) (key_number l.mode (table_of l.t) k) k)
-
-abbrev pub decreases-loop-v : goal.decreases-loop-v
-decreases-loop-v l = l.few - l.v
+invariant-loop-v l = (length l.keys ≡ 512) × ((k : ℕ) → k < 512 → get_or l.keys k 0 ≡ pick (ltb k l.v) (key_number l.mode (table_of l.t) k) k)

@@ -5,7 +5,4 @@ use Rattle.tree.specs.Values.{magnitude, onward}
 use Rattle.tree.proofs.keys.leading.Given as goal
 
 abbrev pub invariant-loop-i : goal.invariant-loop-i
-invariant-loop-i l = (l.i ≤ l.k) × (l.a < 1152921504606847232) × (onward l.a (bytes_from (l.k - l.i) l.t (l.o + l.i)) ≡ magnitude (bytes_from l.k l.t l.o))
-
-abbrev pub decreases-loop-i : goal.decreases-loop-i
-decreases-loop-i l = l.k - l.i
+invariant-loop-i l = (l.a < 1152921504606847232) × (onward l.a (bytes_from (l.k - l.i) l.t (l.o + l.i)) ≡ magnitude (bytes_from l.k l.t l.o))
