@@ -59,18 +59,17 @@ impl Walk<'_> {
         wanted: Wanted,
         d: usize,
         w: &mut [u16],
-        s: Scope,
+        mut s: Scope,
     ) -> Scope
         requires { Part self.now.t.now i e × (d ≤ i) × Fits w.old s }
         ensures { Goes self.now.t.now d (visit_of self.now.t.now self.now.fail (want_of wanted) i e) w.old s w.new result }
     {
-        let mut z = s;
         let mut c = i;
         while c < e {
-            z = self.step(c, wanted, d, w, z);
+            s = self.step(c, wanted, d, w, s);
             c += size_at(self.t, c);
         }
-        z
+        s
     }
 
     // Node c, where it is wanted.
@@ -106,12 +105,12 @@ impl Walk<'_> {
     {
         let k = kind_at(self.t, c);
         if k < Kind::Statements as usize {
-            self.stmt(c, k, d, w, s)
-        } else if k <= Kind::Load as usize {
-            self.block(c, k, d, w, s)
-        } else {
-            self.expr(c, k, d, w, s)
+            return self.stmt(c, k, d, w, s);
         }
+        if k <= Kind::Load as usize {
+            return self.block(c, k, d, w, s);
+        }
+        self.expr(c, k, d, w, s)
     }
 
     // Statements with no statement below: break, continue and pass too.
@@ -122,18 +121,21 @@ impl Walk<'_> {
         ensures { Goes self.now.t.now d (node_of self.now.t.now self.now.fail c) w.old s w.new result }
     {
         if k == Kind::Return as usize {
-            self.ret(c, d, w, s)
-        } else if k == Kind::Expression as usize {
-            self.eval(c, d, w, s)
-        } else if k == Kind::Assign as usize {
-            self.gets(c, d, w, s)
-        } else if k == Kind::AssignModify as usize {
-            self.modify(c, d, w, s)
-        } else if k == Kind::Break as usize || k == Kind::Continue as usize {
-            s.stop(Abort::Loop)
-        } else {
-            self.down(c, Wanted::All, d, w, s)
+            return self.ret(c, d, w, s);
         }
+        if k == Kind::Expression as usize {
+            return self.eval(c, d, w, s);
+        }
+        if k == Kind::Assign as usize {
+            return self.gets(c, d, w, s);
+        }
+        if k == Kind::AssignModify as usize {
+            return self.modify(c, d, w, s);
+        }
+        if k == Kind::Break as usize || k == Kind::Continue as usize {
+            return s.stop(Abort::Loop);
+        }
+        self.down(c, Wanted::All, d, w, s)
     }
 
     #[cycle(walking)]
@@ -156,10 +158,9 @@ impl Walk<'_> {
         let a = self.down(c, Wanted::Of(Role::Expression), d, w, s);
         let e = c + size_at(self.t, c);
         if is_fail(self.t, self.fail, c + 1, e) {
-            a.stop(Abort::Function)
-        } else {
-            a
+            return a.stop(Abort::Function);
         }
+        a
     }
 
     #[cycle(walking)]
@@ -205,16 +206,18 @@ impl Walk<'_> {
         ensures { Goes self.now.t.now d (node_of self.now.t.now self.now.fail c) w.old s w.new result }
     {
         if k == Kind::Statements as usize {
-            self.down(c, Wanted::Of(Role::Item), d, w, s)
-        } else if k == Kind::Def as usize {
-            self.def(c, d, w, s)
-        } else if k == Kind::Load as usize {
-            self.bind(c, Role::Item, Binding::Sets, w, s)
-        } else if k == Kind::For as usize {
-            self.loops(c, d, w, s)
-        } else {
-            self.cond(c, k, d, w, s)
+            return self.down(c, Wanted::Of(Role::Item), d, w, s);
         }
+        if k == Kind::Def as usize {
+            return self.def(c, d, w, s);
+        }
+        if k == Kind::Load as usize {
+            return self.bind(c, Role::Item, Binding::Sets, w, s);
+        }
+        if k == Kind::For as usize {
+            return self.loops(c, d, w, s);
+        }
+        self.cond(c, k, d, w, s)
     }
 
     // An if, an if-else: its condition first.
@@ -327,14 +330,15 @@ impl Walk<'_> {
         ensures { Goes self.now.t.now d (node_of self.now.t.now self.now.fail c) w.old s w.new result }
     {
         if k == Kind::Identifier as usize {
-            s.used(self.t, w, c)
-        } else if k == Kind::Lambda as usize {
-            self.lambda(c, d, w, s)
-        } else if k == Kind::ListComprehension as usize || k == Kind::DictComprehension as usize {
-            self.comp(c, d, w, s)
-        } else {
-            self.down(c, Wanted::All, d, w, s)
+            return s.used(self.t, w, c);
         }
+        if k == Kind::Lambda as usize {
+            return self.lambda(c, d, w, s);
+        }
+        if k == Kind::ListComprehension as usize || k == Kind::DictComprehension as usize {
+            return self.comp(c, d, w, s);
+        }
+        self.down(c, Wanted::All, d, w, s)
     }
 
     #[cycle(walking)]
@@ -393,18 +397,17 @@ impl Walk<'_> {
     // The clauses of the comprehension c after the first, x.
     #[cycle(walking)]
     #[inline(never)]
-    fn later(&self, c: usize, x: usize, d: usize, w: &mut [u16], s: Scope) -> Scope
+    fn later(&self, c: usize, x: usize, d: usize, w: &mut [u16], mut s: Scope) -> Scope
         requires { (c < x) × (x < c + size_at self.now.t.now c) × Node self.now.t.now c d × Fits w.old s }
         ensures { Goes self.now.t.now d (clauses_of self.now.t.now self.now.fail (x + size_at self.now.t.now x) (c + size_at self.now.t.now c)) w.old s w.new result }
     {
         let e = c + size_at(self.t, c);
-        let mut z = s;
         let mut i = x + size_at(self.t, x);
         while i < e {
-            z = self.clause(i, d, w, z);
+            s = self.clause(i, d, w, s);
             i += size_at(self.t, i);
         }
-        z
+        s
     }
 
     #[cycle(walking)]
@@ -423,18 +426,17 @@ impl Walk<'_> {
     // The names that the children of a role of node c bind.
     #[cycle(binding)]
     #[inline(never)]
-    fn bind(&self, c: usize, role: Role, binding: Binding, w: &mut [u16], s: Scope) -> Scope
+    fn bind(&self, c: usize, role: Role, binding: Binding, w: &mut [u16], mut s: Scope) -> Scope
         requires { Node self.now.t.now c 0 × Fits w.old s }
         ensures { (d : ℕ) → Goes self.now.t.now d (pick (used_by binding) (node_use self.now.t.now (number role) c) (node_bind self.now.t.now (number role) c)) w.old s w.new result }
     {
         let e = c + size_at(self.t, c);
-        let mut z = s;
         let mut i = c + 1;
         while i < e {
-            z = self.bind_one(i, role, binding, w, z);
+            s = self.bind_one(i, role, binding, w, s);
             i += size_at(self.t, i);
         }
-        z
+        s
     }
 
     #[cycle(binding)]
@@ -448,12 +450,12 @@ impl Walk<'_> {
         }
         let k = kind_at(self.t, i);
         if k == Kind::Several as usize {
-            self.bind(i, Role::Item, binding, w, s)
-        } else if binds_name(k) {
-            self.ident(i, binding, w, s)
-        } else {
-            s
+            return self.bind(i, Role::Item, binding, w, s);
         }
+        if binds_name(k) {
+            return self.ident(i, binding, w, s);
+        }
+        s
     }
 
     // The name of node i.

@@ -13,8 +13,8 @@ ghost use Rattle.tree.specs.code.Stages.{judged6, judged4, facts_at, Formed};
 use bytes::{bytes_are, global_count, node_count, value_count, version_of};
 use children::check_children;
 use lookup::listed_of;
-use nodes::{check_depths, check_nodes, parents};
-use values::{check_globals, check_values, count_names, offset_of};
+use nodes::{File, parents};
+use values::{check_values, count_names, offset_of};
 
 pub mod bytes;
 pub mod children;
@@ -116,11 +116,15 @@ fn judge_nodes(t: &[u8], f: Facts) -> Result<Facts, Refusal>
     requires { Formed t.now f × (listed f.globals ≤ 512) × (f ≡ facts_at t.now f.nodes f.values f.globals) }
     ensures { result ≡ judged6 t.now f.nodes f.values f.globals }
 {
-    let par = parents(t, f.nodes);
-    check_nodes(t, &f, &par)?;
+    let file = File {
+        t,
+        says: f,
+        parents: &parents(t, f.nodes),
+    };
+    file.check_nodes()?;
     check_children(t, f.nodes, f.values)?;
-    check_depths(t, f.nodes, &par)?;
-    check_globals(t, &f, listed_of(f.globals))?;
+    file.check_depths()?;
+    file.check_globals(listed_of(f.globals))?;
     Ok(f)
 }
 

@@ -1,12 +1,28 @@
-// The nodes one by one: their parents, refusal 6, and their depth, refusal 8.
+// The nodes one by one: their parents, refusal 6, their depth, refusal 8; and the globals, refusal 9.
 ghost use Rattle.std.specs.Prelude.{◌≡◌, ◌<◌, ◌≤◌};
 ghost use Rattle.tree.specs.Nodes.{parent_of, limit_of, known, too_deep, holds_name};
-ghost use Rattle.tree.specs.declared.Refusal.TheVariants.{Node, Depth};
-ghost use Rattle.tree.specs.code.Stages.{value_fits, good6, bad6, Parents, Formed, Judges};
+ghost use Rattle.tree.specs.Values.{offset};
+ghost use Rattle.tree.specs.declared.Refusal.TheVariants.{Node, Depth, Global};
+ghost use Rattle.tree.specs.code.Stages.{value_fits, good6, bad6, bad9, names_of, None5, Parents, Judges};
 
-use crate::bytes::{begin_at, end_at, kind_at, last_at, size_at, value_at};
+use crate::bytes::{begin_at, end_at, kind_at, last_at, size_at, u16_at, value_at};
 use crate::kinds::Kind;
 use crate::{Facts, Refusal};
+
+// A file whose values are in form, what it says of itself, and the parents of its nodes.
+#[derive(Clone, Copy)]
+pub(crate) struct File<'a> {
+    pub(crate) t: &'a [u8],
+    pub(crate) says: Facts,
+    pub(crate) parents: &'a [u16; 1024],
+    ghost some_nodes: { 1 ≤ says.nodes },
+    ghost few_nodes: { says.nodes ≤ 1024 },
+    ghost names: { says.names ≡ names_of t.now says.nodes says.values },
+    ghost rest: { says.rest ≡ offset t.now says.nodes says.values },
+    ghost early: { says.rest < 34000000 },
+    ghost none5: { None5 t.now says.nodes says.values },
+    ghost each_parent: { Parents t.now says.nodes parents.now },
+}
 
 // The nearest node before i that reaches past it. The search goes from parent to parent, not by ones.
 fn parent_from(t: &[u8], par: &[u16; 1024], i: usize) -> usize
@@ -31,18 +47,6 @@ pub(crate) fn parents(t: &[u8], n: usize) -> [u16; 1024]
     par
 }
 
-#[tactic(auto, unfolding(crate::specs::Nodes::limit_of))]
-fn limit_at(t: &[u8], n: usize, par: &[u16; 1024], i: usize) -> usize
-    requires { (n ≤ 1024) × (i < n) × Parents t.now n par.now }
-    ensures { result ≡ limit_of t.now n i }
-{
-    if i == 0 || size_at(t, 0) <= i {
-        return n;
-    }
-    let p = usize::from(par[i]);
-    p + size_at(t, p)
-}
-
 #[tactic(auto, unfolding(crate::specs::Nodes::known))]
 fn is_known(k: usize) -> bool
     ensures { result ≡ known k }
@@ -59,60 +63,87 @@ fn has_name(k: usize) -> bool
         || k == Kind::LoadedName as usize
 }
 
-#[tactic(auto, using(crate::proofs::Names::literal_test, crate::proofs::Names::name_test), unfolding(crate::specs::code::Stages::value_fits))]
-fn value_fits(t: &[u8], f: &Facts, k: usize, v: usize) -> bool
-    requires { Formed t.now f.now }
-    ensures { result ≡ value_fits t.now f.now.nodes f.now.values k v }
-{
-    if k == Kind::Literal as usize {
-        f.names <= v && v < f.values
-    } else if has_name(k) {
-        v < f.names
-    } else {
-        v == 65535
+impl File<'_> {
+    #[tactic(auto, unfolding(crate::specs::Nodes::limit_of))]
+    fn limit_at(&self, i: usize) -> usize
+        requires { i < self.now.says.nodes }
+        ensures { result ≡ limit_of self.now.t.now self.now.says.nodes i }
+    {
+        if i == 0 || size_at(self.t, 0) <= i {
+            return self.says.nodes;
+        }
+        let p = usize::from(self.parents[i]);
+        p + size_at(self.t, p)
     }
-}
 
-#[tactic(auto, unfolding(crate::specs::code::Stages::good6))]
-fn node_ok(t: &[u8], f: &Facts, par: &[u16; 1024], i: usize) -> bool
-    requires { Formed t.now f.now × (i < f.now.nodes) × Parents t.now f.now.nodes par.now }
-    ensures { result ≡ good6 t.now f.now.nodes f.now.values i }
-{
-    let k = kind_at(t, i);
-    let s = size_at(t, i);
-    is_known(k)
-        && begin_at(t, i) <= end_at(t, i)
-        && last_at(t, i) == 0
-        && 1 <= s
-        && i + s <= limit_at(t, f.nodes, par, i)
-        && value_fits(t, f, k, value_at(t, i))
-}
-
-// 6: the first node that is wrong by itself or ends behind its parent is refused.
-pub(crate) fn check_nodes(t: &[u8], f: &Facts, par: &[u16; 1024]) -> Result<(), Refusal>
-    requires { Formed t.now f.now × Parents t.now f.now.nodes par.now }
-    ensures { Judges Node f.now.nodes (bad6 t.now f.now.nodes f.now.values) result }
-{
-    for i in 0..f.nodes {
-        if !node_ok(t, f, par, i) {
-            return Err(Refusal::Node(i));
+    #[tactic(auto, using(crate::proofs::Names::literal_test, crate::proofs::Names::name_test), unfolding(crate::specs::code::Stages::value_fits))]
+    fn value_fits(&self, k: usize, v: usize) -> bool
+        ensures { result ≡ value_fits self.now.t.now self.now.says.nodes self.now.says.values k v }
+    {
+        if k == Kind::Literal as usize {
+            self.says.names <= v && v < self.says.values
+        } else if has_name(k) {
+            v < self.says.names
+        } else {
+            v == 65535
         }
     }
-    Ok(())
-}
 
-// 8: the first node that is deeper than 48 is refused.
-pub(crate) fn check_depths(t: &[u8], n: usize, par: &[u16; 1024]) -> Result<(), Refusal>
-    requires { (1 ≤ n) × (n ≤ 1024) × Parents t.now n par.now }
-    ensures { Judges Depth n (too_deep t.now) result }
-{
-    let mut depth = [1u16; 1024];
-    for i in 1..n {
-        let d = depth[usize::from(par[i])] + 1;
-        if 48 < d {
-            return Err(Refusal::Depth(i));
-        }
-        depth[i] = d;
+    #[tactic(auto, unfolding(crate::specs::code::Stages::good6))]
+    fn node_ok(&self, i: usize) -> bool
+        requires { i < self.now.says.nodes }
+        ensures { result ≡ good6 self.now.t.now self.now.says.nodes self.now.says.values i }
+    {
+        let k = kind_at(self.t, i);
+        let s = size_at(self.t, i);
+        is_known(k)
+            && begin_at(self.t, i) <= end_at(self.t, i)
+            && last_at(self.t, i) == 0
+            && 1 <= s
+            && i + s <= self.limit_at(i)
+            && self.value_fits(k, value_at(self.t, i))
     }
-    Ok(())
+
+    // 6: the first node that is wrong by itself or ends behind its parent is refused.
+    pub(crate) fn check_nodes(&self) -> Result<(), Refusal>
+        ensures { Judges Node self.now.says.nodes (bad6 self.now.t.now self.now.says.nodes self.now.says.values) result }
+    {
+        for i in 0..self.says.nodes {
+            if !self.node_ok(i) {
+                return Err(Refusal::Node(i));
+            }
+        }
+        Ok(())
+    }
+
+    // 8: the first node that is deeper than 48 is refused.
+    pub(crate) fn check_depths(&self) -> Result<(), Refusal>
+        ensures { Judges Depth self.now.says.nodes (too_deep self.now.t.now) result }
+    {
+        let mut depth = [1u16; 1024];
+        for i in 1..self.says.nodes {
+            let d = depth[usize::from(self.parents[i])] + 1;
+            if 48 < d {
+                return Err(Refusal::Depth(i));
+            }
+            depth[i] = d;
+        }
+        Ok(())
+    }
+
+    // 9: the first global that is no name or not above the one before it is refused.
+    pub(crate) fn check_globals(&self, count: usize) -> Result<(), Refusal>
+        requires { count ≤ 512 }
+        ensures { Judges Global count (bad9 self.now.t.now self.now.says.nodes self.now.says.values) result }
+    {
+        let mut before = 0;
+        for i in 0..count {
+            let x = u16_at(self.t, self.says.rest + 2 * i);
+            if self.says.names <= x || 0 < i && x <= before {
+                return Err(Refusal::Global(i));
+            }
+            before = x;
+        }
+        Ok(())
+    }
 }

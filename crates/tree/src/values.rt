@@ -1,14 +1,13 @@
-// The table of values and the globals: refusals 5 and 9.
+// The table of values: refusal 5.
 ghost use Rattle.std.specs.Prelude.{◌≡◌, ◌+◌, ◌*◌, ◌<◌, ◌≤◌};
 ghost use Rattle.tree.specs.Values.{offset};
-ghost use Rattle.tree.specs.Table.{listed};
-ghost use Rattle.tree.specs.declared.Refusal.TheVariants.{Value, Global};
-ghost use Rattle.tree.specs.code.Stages.{bad5, bad9, names_of, Formed, Judges};
+ghost use Rattle.tree.specs.declared.Refusal.TheVariants.{Value};
+ghost use Rattle.tree.specs.code.Stages.{bad5, names_of, Judges};
 ghost use Rattle.tree.specs.code.Offsets.{formed_at, bytes_less, ordered_at, integer_ok, float_ok};
 
+use crate::Refusal;
 use crate::bytes::{byte_at, u16_at, u64_at};
 use crate::kinds::ValueKind;
-use crate::{Facts, Refusal};
 
 // The bits of an infinity: no float but the NaNs is above it, by its bits.
 const INFINITY: usize = 0x7ff0_0000_0000_0000;
@@ -123,20 +122,4 @@ pub(crate) fn count_names(t: &[u8], n: usize, nv: usize) -> usize
         at += 3 + u16_at(t, at + 1);
     }
     nv
-}
-
-// 9: the first global that is no name or not above the one before it is refused.
-pub(crate) fn check_globals(t: &[u8], f: &Facts, count: usize) -> Result<(), Refusal>
-    requires { Formed t.now f.now × (count ≤ 512) }
-    ensures { Judges Global count (bad9 t.now f.now.nodes f.now.values) result }
-{
-    let mut before = 0;
-    for i in 0..count {
-        let x = u16_at(t, f.rest + 2 * i);
-        if f.names <= x || 0 < i && x <= before {
-            return Err(Refusal::Global(i));
-        }
-        before = x;
-    }
-    Ok(())
 }

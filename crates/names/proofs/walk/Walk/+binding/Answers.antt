@@ -22,8 +22,8 @@ pub bind-loop-i-init : goal.bind-loop-i-init
 bind-loop-i-init t c =
     (omega arith, ap (λ (z : ℕ). c.args.c + z) c.size_at.ensures.0, kids_as c.args.self.now.t.now c.args.c _ c.size_at.ensures.0 c.requires.0, c.requires.1, refl, λ d v y g. goes_as (names_as c.args.self.now.t.now c.args.c _ c.size_at.ensures.0 (number c.args.role) (used_by c.args.binding)) g)
 
-pub bind-bind_one-z-requires : goal.bind-bind_one-z-requires
-bind-bind_one-z-requires t c =
+pub bind-bind_one-s-requires : goal.bind-bind_one-s-requires
+bind-bind_one-s-requires t c =
     let p = c.loop-i.invariant.2 in let n = ended p c.loop-i-test.true in (omega (arith, c.decreases, c.loop-i.invariant.0, c.loop-i.invariant.1), (node_in_part p c.loop-i-test.true (omega arith), c.loop-i.invariant.3))
 
 pub bind-overflow_add-i-in-loop-i : goal.bind-overflow_add-i-in-loop-i
@@ -37,7 +37,7 @@ bind-loop-i-smaller t c =
 pub bind-loop-i-preserved : goal.bind-loop-i-preserved
 bind-loop-i-preserved t c =
     let p = c.loop-i.invariant.2 in
-    let g = c.bind_one-z.ensures in
+    let g = c.bind_one-s.ensures in
     rw c.size_at-i.ensures.0 (omega (arith, c.loop-i.invariant.0), c.loop-i.invariant.1, rest p c.loop-i-test.true, goes_fits (g 0), omega arith, λ d v y h. c.loop-i.invariant.5 d v y (names_on (number c.args.role) (used_by c.args.binding) p c.loop-i-test.true (g d) h))
 
 pub bind-returns : goal.bind-returns
@@ -62,6 +62,6 @@ pub bind_one-returns-then-binds_name : goal.bind_one-returns-then-binds_name
 bind_one-returns-then-binds_name t c =
     λ d. pick_true _ (eq-eqb (number c.args.role) (role_at c.args.self.now.t.now c.args.i) (sym (cast c.args.role) ∙ sym c.if-role_at-role.false ∙ c.role_at.ensures.0)) _ _ (goes_as (name_name c.args.self.now.t.now c.args.i (used_by c.args.binding) (name_so c.kind_at-k.ensures.0 c.binds_name.ensures c.if-binds_name.true)) (c.ident.ensures d))
 
-pub bind_one-returns-else-binds_name : goal.bind_one-returns-else-binds_name
-bind_one-returns-else-binds_name t c =
+pub bind_one-returns : goal.bind_one-returns
+bind_one-returns t c =
     λ d. pick_true _ (eq-eqb (number c.args.role) (role_at c.args.self.now.t.now c.args.i) (sym (cast c.args.role) ∙ sym c.if-role_at-role.false ∙ c.role_at.ensures.0)) _ _ (goes_as (name_other c.args.self.now.t.now c.args.i (used_by c.args.binding) (λ z. c.if-k.false (c.kind_at-k.ensures.0 ∙ z)) (name_so c.kind_at-k.ensures.0 c.binds_name.ensures c.if-binds_name.false)) (skips c.requires.1))

@@ -11,8 +11,8 @@ use Rattle.names.proofs.walk.Walk.+binding.Given as goal
 
 abbrev pub invariant-bind-loop-i : goal.invariant-bind-loop-i
 invariant-bind-loop-i l =
-    (l.c < l.i) × (l.e ≡ l.c + size_at l.self.t.now l.c) × Part l.self.t.now l.i l.e × Fits l.w l.z × (length l.w ≡ length l.initial.w)
-    × ((d : ℕ) (v : List ℕ) (y : Scope) → Goes l.self.t.now d (names_in (used_by l.binding) l.self.t.now (number l.role) l.i l.e) l.w l.z v y → Goes l.self.t.now d (pick (used_by l.binding) (node_use l.self.t.now (number l.role) l.c) (node_bind l.self.t.now (number l.role) l.c)) l.initial.w l.initial.z v y)
+    (l.c < l.i) × (l.e ≡ l.c + size_at l.self.t.now l.c) × Part l.self.t.now l.i l.e × Fits l.w l.s × (length l.w ≡ length l.initial.w)
+    × ((d : ℕ) (v : List ℕ) (y : Scope) → Goes l.self.t.now d (names_in (used_by l.binding) l.self.t.now (number l.role) l.i l.e) l.w l.s v y → Goes l.self.t.now d (pick (used_by l.binding) (node_use l.self.t.now (number l.role) l.c) (node_bind l.self.t.now (number l.role) l.c)) l.initial.w l.initial.s v y)
 
 abbrev pub decreases-bind-loop-i : goal.decreases-bind-loop-i
 decreases-bind-loop-i l = l.e - l.i

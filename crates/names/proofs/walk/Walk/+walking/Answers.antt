@@ -52,8 +52,8 @@ pub block-cond-requires : goal.block-cond-requires
 block-cond-requires t c =
     (omega (arith, c.decreases), (c.requires.0, nine_on c.requires.1 c.if-k.false, eleven_off c.requires.2 c.if-k-2.false c.if-k-3.false c.if-k-4.false, c.requires.4, c.requires.5))
 
-pub block-returns-else-k-4 : goal.block-returns-else-k-4
-block-returns-else-k-4 t c = c.cond.ensures
+pub block-returns : goal.block-returns
+block-returns t c = c.cond.ensures
 
 pub body-bind-a-requires : goal.body-bind-a-requires
 body-bind-a-requires t c = (node_zero c.requires.0, enter_fits c.enter.ensures c.requires.1)
@@ -185,8 +185,8 @@ pub eval-returns-then-is_fail : goal.eval-returns-then-is_fail
 eval-returns-then-is_fail t c =
     goes_as (node_expression _ _ _ c.requires.0) (then c.down-a.ensures (cond_true _ (sym (fail_as _ _ _ c.size_at.ensures.0 _ c.requires.1 c.is_fail.ensures) ∙ c.if-is_fail.true) _ _ (stop_to fails Function refl c.stop.ensures (goes_fits c.down-a.ensures))))
 
-pub eval-returns-else-is_fail : goal.eval-returns-else-is_fail
-eval-returns-else-is_fail t c =
+pub eval-returns : goal.eval-returns
+eval-returns t c =
     goes_as (node_expression _ _ _ c.requires.0) (then c.down-a.ensures (cond_false _ (sym (fail_as _ _ _ c.size_at.ensures.0 _ c.requires.1 c.is_fail.ensures) ∙ c.if-is_fail.false) _ _ (skips (goes_fits c.down-a.ensures))))
 
 pub expr-used-requires : goal.expr-used-requires
@@ -208,9 +208,9 @@ expr-comp-requires t c = (omega (arith, c.decreases), (c.requires.2, c.requires.
 pub expr-down-requires : goal.expr-down-requires
 expr-down-requires t c = (omega (arith, c.decreases), (c.requires.2, c.requires.3))
 
-pub expr-returns-else-k-4 : goal.expr-returns-else-k-4
-expr-returns-else-k-4 t c =
-    goes_as (node_other _ _ _ c.args.k (sym c.requires.0) c.requires.1 c.if-k.false c.if-k-2.false c.if-k-4.false.0 c.if-k-4.false.1) c.down.ensures
+pub expr-returns : goal.expr-returns
+expr-returns t c =
+    goes_as (node_other _ _ _ c.args.k (sym c.requires.0) c.requires.1 c.if-k.false c.if-k-2.false c.if-k-3.false c.if-k-4.false) c.down.ensures
 
 pub gets-down-a-requires : goal.gets-down-a-requires
 gets-down-a-requires t c = (omega (arith, c.decreases), (c.requires.1, c.requires.2))
@@ -245,8 +245,8 @@ pub later-loop-i-init : goal.later-loop-i-init
 later-loop-i-init t c =
     rw (c.size_at.ensures.0, c.size_at-2.ensures.0) (omega (arith, c.requires.0), refl, below_rest c.requires.2 c.requires.0 c.requires.1, c.requires.3, refl, λ v y g. g)
 
-pub later-clause-z-requires : goal.later-clause-z-requires
-later-clause-z-requires t c =
+pub later-clause-s-requires : goal.later-clause-s-requires
+later-clause-s-requires t c =
     let p = c.loop-i.invariant.2 in let n = ended p c.loop-i-test.true in (omega (arith, c.decreases, c.loop-i.invariant.0, c.loop-i.invariant.1), (node_in_part p c.loop-i-test.true (omega (arith, c.requires.2.deep, c.loop-i.invariant.0)), c.loop-i.invariant.3))
 
 pub later-overflow_add-i-in-loop-i : goal.later-overflow_add-i-in-loop-i
@@ -260,7 +260,7 @@ later-loop-i-smaller t c =
 pub later-loop-i-preserved : goal.later-loop-i-preserved
 later-loop-i-preserved t c =
     let p = c.loop-i.invariant.2 in
-    let g = c.clause-z.ensures in
+    let g = c.clause-s.ensures in
     rw c.size_at-i.ensures.0
     (omega (arith, c.loop-i.invariant.0), c.loop-i.invariant.1, rest p c.loop-i-test.true, goes_fits g, omega arith, λ v y h. c.loop-i.invariant.5 v y (clauses_on c.args.self.now.fail p c.loop-i-test.true g h))
 
@@ -386,9 +386,9 @@ stmt-returns-then-k-4 t c = c.modify.ensures
 pub stmt-down-requires : goal.stmt-down-requires
 stmt-down-requires t c = (omega (arith, c.decreases), (c.requires.2, c.requires.3))
 
-pub stmt-returns-else-k-6 : goal.stmt-returns-else-k-6
-stmt-returns-else-k-6 t c =
-    goes_as (node_statement _ _ _ c.args.k (sym c.requires.0) c.requires.1 c.if-k-6.false.0 c.if-k-6.false.1 c.if-k.false c.if-k-2.false c.if-k-3.false c.if-k-4.false) c.down.ensures
+pub stmt-returns : goal.stmt-returns
+stmt-returns t c =
+    goes_as (node_statement _ _ _ c.args.k (sym c.requires.0) c.requires.1 c.if-k-5.false c.if-k-6.false c.if-k.false c.if-k-2.false c.if-k-3.false c.if-k-4.false) c.down.ensures
 
 pub turn-assign-x-requires : goal.turn-assign-x-requires
 turn-assign-x-requires t c = (omega (arith, c.decreases), (c.requires.0, c.requires.1))
@@ -407,8 +407,8 @@ turn-returns t c =
 pub visit-loop-c-init : goal.visit-loop-c-init
 visit-loop-c-init t c = (omega arith, c.requires.0, c.requires.2, refl, λ v y g. g)
 
-pub visit-step-z-requires : goal.visit-step-z-requires
-visit-step-z-requires t c =
+pub visit-step-s-requires : goal.visit-step-s-requires
+visit-step-s-requires t c =
     let p = c.loop-c.invariant.1 in let n = ended p c.loop-c-test.true in (omega (arith, c.decreases, c.loop-c.invariant.0), (node_in_part p c.loop-c-test.true (omega (arith, c.requires.1, c.loop-c.invariant.0)), omega (arith, c.requires.1, c.loop-c.invariant.0), c.loop-c.invariant.2))
 
 pub visit-overflow_add-c : goal.visit-overflow_add-c
@@ -422,7 +422,7 @@ visit-loop-c-smaller t c =
 pub visit-loop-c-preserved : goal.visit-loop-c-preserved
 visit-loop-c-preserved t c =
     let p = c.loop-c.invariant.1 in
-    let g = c.step-z.ensures in
+    let g = c.step-s.ensures in
     rw c.size_at-c.ensures.0
     (omega (arith, c.loop-c.invariant.0), rest p c.loop-c-test.true, goes_fits g, omega arith, λ v y h. c.loop-c.invariant.4 v y (visit_on c.args.self.now.fail c.args.wanted p c.loop-c-test.true g h))
 
@@ -435,17 +435,17 @@ one-returns-then-k t c = c.stmt.ensures
 pub one-returns-then-k-2 : goal.one-returns-then-k-2
 one-returns-then-k-2 t c = c.block.ensures
 
-pub one-returns-else-k-2 : goal.one-returns-else-k-2
-one-returns-else-k-2 t c = c.expr.ensures
+pub one-returns : goal.one-returns
+one-returns t c = c.expr.ensures
 
-pub stmt-returns-then-k-6 : goal.stmt-returns-then-k-6
-stmt-returns-then-k-6 t c =
+pub stmt-returns-then-k-5 : goal.stmt-returns-then-k-5
+stmt-returns-then-k-5 t c =
     let e = stop_to (breaks (broken_by (node_head c.args.self.now.t.now c.args.c))) Loop refl c.stop.ensures c.requires.3 in
-    elim c.if-k-6.either [ inl q ↦ goes_as (node_break _ _ _ (sym c.requires.0 ∙ q)) e | inr q ↦ goes_as (node_continue _ _ _ (sym c.requires.0 ∙ q.1)) e ]
+    elim c.then-k-5.either [ inl q ↦ goes_as (node_break _ _ _ (sym c.requires.0 ∙ q)) e | inr q ↦ goes_as (node_continue _ _ _ (sym c.requires.0 ∙ q.1)) e ]
 
-pub expr-returns-then-k-4 : goal.expr-returns-then-k-4
-expr-returns-then-k-4 t c =
-    elim c.if-k-4.either [ inl q ↦ goes_as (node_list _ _ _ (sym c.requires.0 ∙ q)) c.comp.ensures | inr q ↦ goes_as (node_dict _ _ _ (sym c.requires.0 ∙ q.1)) c.comp.ensures ]
+pub expr-returns-then-k-3 : goal.expr-returns-then-k-3
+expr-returns-then-k-3 t c =
+    elim c.then-k-3.either [ inl q ↦ goes_as (node_list _ _ _ (sym c.requires.0 ∙ q)) c.comp.ensures | inr q ↦ goes_as (node_dict _ _ _ (sym c.requires.0 ∙ q.1)) c.comp.ensures ]
 
 pub over-returns-in_default : goal.over-returns-in_default
 over-returns-in_default t c = goes_as (over_none _ _ c.requires.1 (sym c.in_default.is ∙ c.requires.0)) (skips c.requires.2)

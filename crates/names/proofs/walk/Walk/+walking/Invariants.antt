@@ -11,16 +11,16 @@ use Rattle.names.proofs.walk.Walk.+walking.Given as goal
 
 abbrev pub invariant-later-loop-i : goal.invariant-later-loop-i
 invariant-later-loop-i l =
-    (l.c < l.i) × (l.e ≡ l.c + size_at l.self.t.now l.c) × Part l.self.t.now l.i l.e × Fits l.w l.z × (length l.w ≡ length l.initial.w)
-    × ((v : List ℕ) (y : Scope) → Goes l.self.t.now l.d (clauses_of l.self.t.now l.self.fail l.i l.e) l.w l.z v y → Goes l.self.t.now l.d (clauses_of l.self.t.now l.self.fail (l.x + size_at l.self.t.now l.x) (l.c + size_at l.self.t.now l.c)) l.initial.w l.initial.z v y)
+    (l.c < l.i) × (l.e ≡ l.c + size_at l.self.t.now l.c) × Part l.self.t.now l.i l.e × Fits l.w l.s × (length l.w ≡ length l.initial.w)
+    × ((v : List ℕ) (y : Scope) → Goes l.self.t.now l.d (clauses_of l.self.t.now l.self.fail l.i l.e) l.w l.s v y → Goes l.self.t.now l.d (clauses_of l.self.t.now l.self.fail (l.x + size_at l.self.t.now l.x) (l.c + size_at l.self.t.now l.c)) l.initial.w l.initial.s v y)
 
 abbrev pub decreases-later-loop-i : goal.decreases-later-loop-i
 decreases-later-loop-i l = l.e - l.i
 
 abbrev pub invariant-visit-loop-c : goal.invariant-visit-loop-c
 invariant-visit-loop-c l =
-    (l.i ≤ l.c) × Part l.self.t.now l.c l.e × Fits l.w l.z × (length l.w ≡ length l.initial.w)
-    × ((v : List ℕ) (y : Scope) → Goes l.self.t.now l.d (visit_of l.self.t.now l.self.fail (want_of l.wanted) l.c l.e) l.w l.z v y → Goes l.self.t.now l.d (visit_of l.self.t.now l.self.fail (want_of l.wanted) l.i l.e) l.initial.w l.initial.z v y)
+    (l.i ≤ l.c) × Part l.self.t.now l.c l.e × Fits l.w l.s × (length l.w ≡ length l.initial.w)
+    × ((v : List ℕ) (y : Scope) → Goes l.self.t.now l.d (visit_of l.self.t.now l.self.fail (want_of l.wanted) l.c l.e) l.w l.s v y → Goes l.self.t.now l.d (visit_of l.self.t.now l.self.fail (want_of l.wanted) l.i l.e) l.initial.w l.initial.s v y)
 
 abbrev pub decreases-visit-loop-c : goal.decreases-visit-loop-c
 decreases-visit-loop-c l = l.e - l.c
