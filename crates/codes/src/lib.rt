@@ -8,10 +8,11 @@ ghost use Rattle.codes.specs.Named.{severity_of};
 
 use rules::Code;
 
+// With the numbers that C sees.
 #[derive(Clone, Copy, Debug, PartialEq, Eq)]
 pub enum EvalSeverity {
-    Disabled,
-    Warning,
+    Disabled = 0,
+    Warning = 1,
 }
 
 // Any number but those six is a warning's, as 01 has it.

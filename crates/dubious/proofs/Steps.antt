@@ -17,7 +17,7 @@ use Rattle.tree.specs.code.Numbers.{like_by}
 use Rattle.tree.specs.code.Find.{child_of, first_child}
 use Rattle.rules.specs.Record.{Rec, named_at, listed}
 use Rattle.rules.specs.Visit.{head_at, kind_among}
-use Rattle.rules.specs.Dubious.{keys, double, clash, against, doubles, dict_at, idle_at}
+use Rattle.rules.specs.Dubious.{keys, double, clash, against, doubles}
 use Rattle.tree.proofs.Laws.{sized, first, kids}
 use Rattle.tree.proofs.FirstChild.{child_some, child_none}
 use Rattle.answer.proofs.Flat.{past, over, split}
@@ -98,9 +98,6 @@ module _ (ns t : List ℕ) (j : ℕ) where
   other_here : (m : ℕ) → equal m ≡ false → (xs : List Head) → of_j (node_head t m ∷ xs) ≡ of_j xs
   unfolding node_head node_spot
   other_here m e xs = clash_other (like_by ns (value_at t m) (value_at t j)) (node_head t m) (node_head t j) (of_j xs) e
-
-  pub scan_start : (i : ℕ) → Scanned i None i
-  scan_start i = record { hit = refl; left = refl }
 
   pub scan_end : (i : ℕ) (old : Option ℕ) (m : ℕ) → Scanned i old m → j ≤ m → clashes ns t i j ≡ doubled ns t old j
   unfolding before

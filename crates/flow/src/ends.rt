@@ -19,15 +19,15 @@ pub(crate) fn final_return(t: &[u8], fail: usize, role: usize, i: usize, e: usiz
     };
     let k = kind_at(t, j);
     let f = j + size_at(t, j);
+    // Kept: a chain of ifs, since a kind is read as any number, and `Kind::If as usize` is no pattern of a match.
     if k == Kind::Expression as usize {
-        return is_fail(t, fail, j + 1, f);
+        is_fail(t, fail, j + 1, f)
+    } else if k == Kind::Statements as usize {
+        final_return(t, fail, Role::Item as usize, j + 1, f)
+    } else if k == Kind::IfElse as usize {
+        final_return(t, fail, Role::First as usize, j + 1, f)
+            && final_return(t, fail, Role::Second as usize, j + 1, f)
+    } else {
+        k == Kind::Return as usize
     }
-    if k == Kind::Statements as usize {
-        return final_return(t, fail, Role::Item as usize, j + 1, f);
-    }
-    if k == Kind::IfElse as usize {
-        return final_return(t, fail, Role::First as usize, j + 1, f)
-            && final_return(t, fail, Role::Second as usize, j + 1, f);
-    }
-    k == Kind::Return as usize
 }

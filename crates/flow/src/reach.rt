@@ -28,20 +28,19 @@ fn reachable(t: &[u8], fail: usize, i: usize, sheet: &mut Sheet<'_>) -> bool
 {
     let k = kind_at(t, i);
     let e = i + size_at(t, i);
+    // Kept: a chain of ifs, since a kind is read as any number, and `Kind::If as usize` is no pattern of a match.
     if k == Kind::Statements as usize {
-        return in_list(t, fail, i + 1, e, sheet);
+        in_list(t, fail, i + 1, e, sheet)
+    } else if k == Kind::IfElse as usize {
+        sides(t, fail, i + 1, e, sheet)
+    } else if k == Kind::Expression as usize {
+        is_fail(t, fail, i + 1, e)
+    } else if stops(k) {
+        true
+    } else {
+        each(t, fail, i + 1, e, sheet);
+        false
     }
-    if k == Kind::IfElse as usize {
-        return sides(t, fail, i + 1, e, sheet);
-    }
-    if k == Kind::Expression as usize {
-        return is_fail(t, fail, i + 1, e);
-    }
-    if stops(k) {
-        return true;
-    }
-    each(t, fail, i + 1, e, sheet);
-    false
 }
 
 // Statements in a row: after one that aborts the next is reported, and the rest is not walked.

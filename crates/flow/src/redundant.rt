@@ -42,6 +42,7 @@ fn check(t: &[u8], loops: bool, i: usize, sheet: &mut Sheet<'_>)
 {
     let k = kind_at(t, i);
     let e = i + size_at(t, i);
+    // Kept: a chain of ifs, since a kind is read as any number, and `Kind::If as usize` is no pattern of a match.
     if k == Kind::Continue as usize {
         continues(t, loops, i, sheet);
     } else if k == Kind::Return as usize {

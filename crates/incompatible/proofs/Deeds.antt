@@ -3,13 +3,12 @@ use Rattle.std.specs.Prelude.{Option, None, Some}
 use Prim.Native.Nat.{ℕ, ◌+◌, ◌≤◌, ◌<◌}
 use native.Mathlib.Omega.{arith}
 use native.Mathlib.Decide.{ℕ_discrete}
-use mathlib.Core.Path.{◌≡◌, refl, sym, ap, subst, ◌∙◌}
+use mathlib.Core.Path.{◌≡◌, refl, sym, ap, ◌∙◌}
 use mathlib.Core.List.{List, [], ◌∷◌, ◌++◌, append-nil, append_assoc}
 use mathlib.Core.Bool.{Bool, true, false, ◌&&◌, ◌||◌}
-use lib.Dec.{T, eqb}
+use lib.Dec.{eqb}
 use borrow.Author.Tests.{eq-eqb, ne_eqb}
 use Rattle.tree.specs.Bytes.{kind_at, role_at, size_at, value_at, pick}
-use Rattle.tree.specs.Nodes.{holds_name}
 use Rattle.tree.specs.Forest.{Head, Forest, node, node_spot, node_head, forest_of}
 use Rattle.tree.specs.code.Part.{Part}
 use Rattle.tree.specs.code.Find.{first_child}
@@ -21,7 +20,6 @@ use Rattle.rules.specs.Order.{nothing, bindings, bind_of}
 use Rattle.rules.specs.Incompatible.{Deed, defines, repeats, deed_part, defined_names, self_set, Top, assigning, modifying, defining, loading, holding, aside, tops, top_part, deeds}
 use Rattle.rules.proofs.Look.{look_all}
 use Rattle.answer.proofs.Flat.{past, over, split}
-use Rattle.incompatible.specs.Ground.{Low}
 use Rattle.incompatible.specs.Ledger.{named_one, below_one, is_several, goes_in, top_of, deeds_one, top_assign, SelfSet}
 use Rattle.answer.proofs.Bits.{and_false}
 use Rattle.incompatible.proofs.Checks.{not_eqb, below_e, head_is, kind_is, spot_is, kind_missing}
@@ -54,20 +52,6 @@ binds_alike : (k : ℕ) (s : Head) (down : ℕ → List Deed) → (k ≡ 41 → 
 binds_alike k s down =
     look_all (λ n b. (n ≡ 41 → ⊥) → deed_part b s down ≡ deed_part b s (λ v. [])) k bindings nothing
     ((λ n. refl), ((λ n. absurd (n refl)), ((λ n. refl), ((λ n. refl), tt)))) (λ n. refl)
-
-bound_holds : (k : ℕ) → true ≡ bound k → T (holds_name k)
-bound_holds k b = go (eqb k 20) (bound k) b
-  where
-    go : (a b : Bool) → true ≡ b → T (a || b)
-    go true b e = tt
-    go false b e = subst T e tt
-
--- a name that a node binds is one of the first 512 values
-pub bound_low : {t : List ℕ} {n : ℕ} → Low t n → (j : ℕ) → j < n → true ≡ bound (kind_at t j) → value_at t j < 512
-bound_low {t} l j h b = l.low j h (bound_holds (kind_at t j) b)
-
-pub fewer : {t : List ℕ} {n m : ℕ} → Low t n → m ≤ n → Low t m
-fewer l h = record { low = λ j k. l.low j (omega arith) }
 
 -- ---- the names of a role
 
@@ -185,9 +169,6 @@ module _ {t : List ℕ} {i e : ℕ} (part : Part t i e) (le : i ≤ e) where
     self_found a b c =
         (self_is ∙ rw (a, b, eq-eqb (value_at t x) (value_at t y) c), head_is 5 part le is_x, below_e 5 part le is_x, a)
 
-pub self_asks : (t : List ℕ) (i e x : ℕ) → Part t i e → SelfSet t i e (Some x) → Low t e → (value_at t x < 512) × (x < 1024) × (kind_at t x ≡ 40)
-self_asks t i e x part f l = (l.low x f.2 (rw f.3 tt), omega (arith, f.2, part.few), f.3)
-
 pub assign_repeat : (t : List ℕ) (i e x : ℕ) → SelfSet t i e (Some x) → top_assign (forest_of t i e) ≡ repeats (node_head t x) ∷ []
 assign_repeat t i e x f = rw (f.0, f.1)
 
@@ -222,25 +203,6 @@ deeds_step {t} {i} {e} p lt =
         ≡ deeds (forest_of t (pick b (i + 1) (i + size_at t i)) e)
     go true = sym (split deeds deeds_all refl (λ h k s. refl) (kids p lt) (rest p lt) (omega (arith, sized p lt)) (ended p lt))
     go false = refl
-
-pub goes : (k : ℕ) → 8 ≤ k → k ≤ 11 → goes_in (top_of k) ≡ true
-goes k a b = go (ℕ_discrete k 8) (ℕ_discrete k 9) (ℕ_discrete k 10)
-  where
-    go : Dec (k ≡ 8) → Dec (k ≡ 9) → Dec (k ≡ 10) → goes_in (top_of k) ≡ true
-    go (yes e) y z = rw e
-    go (no x) (yes e) z = rw e
-    go (no x) (no y) (yes e) = rw e
-    go (no x) (no y) (no z) = let e : k ≡ 11 = omega arith in rw e
-
-pub stays_below : (k : ℕ) → k < 8 → goes_in (top_of k) ≡ false
-stays_below k =
-    look_all (λ n b. n < 8 → goes_in b ≡ false) k tops aside
-    ((λ h. refl), ((λ h. refl), ((λ h. refl), ((λ h. refl), ((λ h. absurd (omega arith)), ((λ h. absurd (omega arith)), ((λ h. absurd (omega arith)), ((λ h. absurd (omega arith)), tt)))))))) (λ h. refl)
-
-pub stays_above : (k : ℕ) → 11 < k → goes_in (top_of k) ≡ false
-stays_above k =
-    look_all (λ n b. 11 < n → goes_in b ≡ false) k tops aside
-    ((λ h. refl), ((λ h. refl), ((λ h. refl), ((λ h. refl), ((λ h. absurd (omega arith)), ((λ h. absurd (omega arith)), ((λ h. absurd (omega arith)), ((λ h. absurd (omega arith)), tt)))))))) (λ h. refl)
 
 other_none : (k : ℕ) (f : Forest) → (k ≡ 6 → ⊥) → (k ≡ 7 → ⊥) → (k ≡ 12 → ⊥) → (k ≡ 13 → ⊥) → top_part (top_of k) f [] ≡ []
 other_none k f =

@@ -16,14 +16,14 @@ use tree::kinds::{Kind, Role};
 
 // How a name was first defined: at which node, and whether x = x was already free.
 #[derive(Clone, Copy)]
-pub(crate) struct Definition {
+struct Definition {
     node: u16,
     exported: bool,
 }
 
 // How each name was first defined, by value number, and how often x = x is free.
-#[derive(Clone, Copy)]
-pub(crate) struct Defined {
+#[derive(Drop)]
+struct Defined {
     names: [Option<Definition>; 512],
     allowed: Allowance,
 }
@@ -57,9 +57,10 @@ fn below_next(t: &[u8], j: usize) -> usize
     ensures { result ≡ pick (is_several (node_head t.now j)) (j + 1) (j + size_at t.now j) }
 {
     if role_at(t, j) == Role::Item as usize && kind_at(t, j) == Kind::Several as usize {
-        return j + 1;
+        j + 1
+    } else {
+        j + size_at(t, j)
     }
-    j + size_at(t, j)
 }
 
 // The target of x = x: a name, and the value the identifier of that name.
@@ -73,16 +74,17 @@ fn self_set(t: &[u8], i: usize, e: usize) -> Option<usize>
         && kind_at(t, y) == Kind::Identifier as usize
         && value_at(t, x) == value_at(t, y)
     {
-        return Some(x);
+        Some(x)
+    } else {
+        None
     }
-    None
 }
 
 // Lists, if, if-else and for are gone into; the insides of any other node are not.
 fn is_gone_into(kind: usize) -> bool
     ensures { result ≡ goes_in (top_of kind) }
 {
-    Kind::Statements as usize <= kind && kind <= Kind::For as usize
+    (Kind::Statements as usize..=Kind::For as usize).contains(&kind)
 }
 
 fn next(t: &[u8], i: usize) -> usize
@@ -90,9 +92,10 @@ fn next(t: &[u8], i: usize) -> usize
     ensures { result ≡ pick (goes_in (top_of (kind_at t.now i))) (i + 1) (i + size_at t.now i) }
 {
     if is_gone_into(kind_at(t, i)) {
-        return i + 1;
+        i + 1
+    } else {
+        i + size_at(t, i)
     }
-    i + size_at(t, i)
 }
 
 impl Defined {
@@ -138,8 +141,8 @@ impl Defined {
         match self.names[v] {
             Some(first) if self.may_repeat(t, first) => {
                 self.names[v] = Some(Definition {
-                    node: first.node,
                     exported: true,
+                    ..first
                 });
             }
             _ => self.ident(t, x, sheet),

@@ -75,9 +75,10 @@ impl Types {
     {
         let j = child_of(t, Role::Second as usize, i, e)?;
         if kind_at(t, j) == Kind::Identifier as usize && self.names_type(value_at(t, j)) {
-            return Some(j);
+            Some(j)
+        } else {
+            None
         }
-        None
     }
 
     // The function among the children from i up to e is the identifier type.

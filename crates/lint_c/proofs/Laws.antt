@@ -1,4 +1,6 @@
 -- Words laid over a room; numbers that are no code; what is called, by its parts. Assumes nothing.
+use Rattle.std.specs.Prelude.{Result, Ok, Err}
+use Rattle.std.specs.Result.{OkIff, result_unwrap_or}
 use Prim.Native.Nat.{ℕ, suc, ◌+◌, ◌-◌, ◌≤◌, ◌<◌, min}
 use mathlib.Core.Bool.{false}
 use mathlib.Core.Logic.{◌⊎◌, inl, inr}
@@ -7,18 +9,17 @@ use mathlib.Core.List.{List, [], ◌∷◌, ◌++◌}
 use native.Mathlib.Omega.{arith}
 use native.Mathlib.Numerals.{add-one}
 use lib.ListN.{length, replicate, get_or, take, drop, set, length-take, length-drop, length-append}
-use lib.Seq.{take-suc, drop-cons, append_snoc, set_at, set_out, take-append-le, get_or_at}
+use lib.Seq.{take-suc, drop-cons, append_snoc, set_at, set_out, take-append-le, take_at, get_or_at}
 use borrow.Author.Tests.{ne_eqb}
 use Rattle.tree.specs.declared.Mode.{Mode}
-use Rattle.rules.specs.Codes.{disabled}
+use Rattle.codes.proofs.Padded.{no_name}
+use Rattle.rules.specs.Codes.{disabled, short_name}
 use Rattle.rules.specs.Joined.{codes}
 use Rattle.rules.specs.Calls.{DoneWithWork, lint_call}
 use Rattle.rules.specs.declared.Answer.{Answer}
 use Rattle.rules.proofs.Answered.{short_or_not}
-use Rattle.codes.specs.Named.{named}
-use Rattle.codes.specs.declared.ShortName.{ShortName}
-use Rattle.sarif.specs.Calls.{Done as log_done, sarif_call}
-use Rattle.sarif.specs.declared.Answer.{Answer as log_answer}
+use Rattle.sarif.specs.Calls.{Done as LogDone, sarif_call}
+use Rattle.sarif.specs.declared.Answer.{Answer as LogAnswer}
 use Rattle.lint_c.specs.Face.{over, laid, number_of, report_of, called, as_listed, log_report_of, sarif_called}
 
 -- one word more
@@ -69,17 +70,18 @@ laid_more n ws room room' b e f = rw (f, e) (go (short_or_not (length ws) (lengt
         let l : length (over (length room) ws room) ≡ length room = over_long ws room (length room) h (omega arith) in
         rw (m, k) (set_out (over (length room) ws room) (length ws) b (omega arith) ∙ sym (over_front ws (b ∷ []) room (length room) h))
 
--- a name's bytes, laid as far as the name and the room go
-pub spelled : (s : ShortName) (w : List ℕ) (n : ℕ) (room room' : List ℕ) → s ≡ named w → n ≡ min s.length (length room)
-    → room' ≡ over n s.bytes room → room' ≡ laid w room
-unfolding laid
-spelled s w n room room' e f g =
-    let m : s.length ≡ length w = ap (λ (x : ShortName). x.length) e in
-    let k : n ≡ min (length w) (length room) = f ∙ ap (λ (x : ℕ). min x (length room)) m in
-    g
-    ∙ ap (λ (x : ShortName). over n x.bytes room) e
-    ∙ over_front w (replicate (26 - length w) 0) room n (omega arith)
-    ∙ ap (λ (j : ℕ). over j w room) k
+-- what is copied as far as the room goes
+pub laid_so : (ws room room' : List ℕ) → room' ≡ take (min (length ws) (length room)) ws ++ drop (min (length ws) (length room)) room
+    → room' ≡ laid ws room
+unfolding laid over
+laid_so ws room room' e = e
+
+-- a report's words, of which a log's bytes are the last: p, the place; c, the counts
+pub report_words : (p b : ℕ) (c words : List ℕ) → length words ≡ codes + 2 → words ≡ (p ∷ c) ++ (b ∷ []) → take (codes + 1) words ≡ p ∷ c
+report_words p b c words l e =
+    let k : length ((p ∷ c) ++ (b ∷ [])) ≡ length (p ∷ c) + 1 = length-append (p ∷ c) (b ∷ []) in
+    let m : length words ≡ length ((p ∷ c) ++ (b ∷ [])) = ap length e in
+    ap (take (codes + 1)) e ∙ take_at (p ∷ c) (b ∷ []) (codes + 1) (omega (arith, k, m, l))
 
 -- above 17
 pub no_code : (c : ℕ) → codes < c → disabled c ≡ false
@@ -93,6 +95,15 @@ no_code c h =
       ne_eqb c 11 (λ e. omega arith),
     )
 
+-- a number that is no u32 answers as 0 does
+pub as_code : {E : Type 0} (c x : ℕ) (r : Result ℕ E) → OkIff r (c < 4294967296) c → x ≡ result_unwrap_or r 0
+    → (disabled x ≡ disabled c) × (short_name x ≡ short_name c)
+unfolding short_name
+as_code c x (Ok y) h e = let s : x ≡ c = e ∙ h.1 in (ap disabled s, ap short_name s)
+as_code c x (Err why) h e =
+    let s : codes < c = omega (arith, h) in
+    (ap disabled e ∙ sym (no_code c s), ap short_name e ∙ sym (no_name c s))
+
 -- a report told after the call is the one that is called
 pub told : (mode : Mode) (t work room report : List ℕ) (a : Answer) (work' room' report' : List ℕ) (n : ℕ)
     → record { answer = a; room = room'; work = work' } ≡ lint_call mode t work room → n ≡ number_of a.outcome → report' ≡ laid (report_of a) report
@@ -103,11 +114,11 @@ told mode t work room report a work' room' report' n e f g =
     λ i. record { number = k i; work = (e i).work; room = (e i).room; report = l i }
 
 -- ... and so is a log's report
-pub logged : (mode : Mode) (t work room output report : List ℕ) (a : log_answer) (work' room' output' report' : List ℕ) (n : ℕ)
+pub logged : (mode : Mode) (t work room output report : List ℕ) (a : LogAnswer) (work' room' output' report' : List ℕ) (n : ℕ)
     → record { answer = a; work = work'; room = room'; output = output' } ≡ sarif_call mode t work room output
     → n ≡ number_of (as_listed a.outcome) → report' ≡ laid (log_report_of a) report
     → record { number = n; work = work'; room = room'; output = output'; report = report' } ≡ sarif_called mode t work room output report
 logged mode t work room output report a work' room' output' report' n e f g =
-    let k = f ∙ ap (λ (d : log_done). number_of (as_listed d.answer.outcome)) e in
-    let l = g ∙ ap (λ (d : log_done). laid (log_report_of d.answer) report) e in
+    let k = f ∙ ap (λ (d : LogDone). number_of (as_listed d.answer.outcome)) e in
+    let l = g ∙ ap (λ (d : LogDone). laid (log_report_of d.answer) report) e in
     λ i. record { number = k i; work = (e i).work; room = (e i).room; output = (e i).output; report = l i }

@@ -11,8 +11,8 @@ use Rattle.codes.specs.Named.{severity_of}
 use Rattle.codes.specs.declared.EvalSeverity.{EvalSeverity}
 use Rattle.codes.specs.declared.EvalSeverity.TheVariants.{Disabled, Warning}
 use Rattle.sarif.specs.Calls.{sarif_call}
-use Rattle.sarif.specs.Calls.{Outcome as log_outcome}
-use Rattle.sarif.specs.declared.Answer.{Answer as log_answer}
+use Rattle.sarif.specs.Calls.{Outcome as LogOutcome}
+use Rattle.sarif.specs.declared.Answer.{Answer as LogAnswer}
 
 -- The library's version: major * 10000 + minor * 100 + patch, here 3.1.0
 abbrev pub library_version : ℕ
@@ -80,17 +80,17 @@ called mode t work room report = let done = lint_call mode t work room in record
 -- ---- the list as a SARIF log
 
 -- a log is answered as its list is
-abbrev pub as_listed : log_outcome → Outcome
+abbrev pub as_listed : LogOutcome → Outcome
 as_listed (Ok n) = Ok n.records
 as_listed (Err why) = Err why
 
 -- the log's bytes; a refusal writes none
-abbrev pub bytes_of : log_outcome → ℕ
+abbrev pub bytes_of : LogOutcome → ℕ
 bytes_of (Ok n) = n.bytes
 bytes_of (Err why) = 0
 
 -- the list's report, and after the last count the log's bytes
-abbrev pub log_report_of : log_answer → List ℕ
+abbrev pub log_report_of : LogAnswer → List ℕ
 log_report_of a =
     report_of (record { outcome = as_listed a.outcome; tally = a.tally }) ++ (bytes_of a.outcome ∷ [])
 

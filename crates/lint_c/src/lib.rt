@@ -2,14 +2,14 @@
 // include/yudronkha.h is what a caller reads.
 #![tactic(auto)]
 
-ghost use Rattle.std.specs.Prelude.{◌≡◌, [], ◌∷◌, ◌++◌, min, ◌≤◌, length, get_or};
+ghost use Rattle.std.specs.Prelude.{◌≡◌, ◌+◌, [], ◌∷◌, ◌++◌, min, length, take, drop};
 ghost use Rattle.tree.specs.declared.Mode.TheVariants.{Ordinary, Strict};
 ghost use Rattle.rules.specs.Codes.{disabled, short_name};
-ghost use Rattle.lint_c.specs.Face.{library_version, numbered, severity_number, short_named, number_of, place_of, report_of, over, laid, called, as_listed, bytes_of, log_report_of, sarif_called};
+ghost use Rattle.rules.specs.Joined.{codes};
+ghost use Rattle.lint_c.specs.Face.{library_version, severity_number, short_named, number_of, place_of, called, as_listed, bytes_of, sarif_called};
 
-use codes::EvalSeverity;
-use rules::{Answer, CODES, Outcome};
-use sarif::{Answer as LogAnswer, Outcome as Logged};
+use rules::{CODES, Refusal};
+use sarif::Sizes;
 use tree::Mode;
 
 // Major * 10000 + minor * 100 + patch; include/yudronkha.h says when each goes up.
@@ -18,13 +18,14 @@ const VERSION: usize = 30100;
 // The words of a report: a place, then the count of each code. A log's has one word more, its bytes.
 const REPORT: usize = CODES + 1;
 
-fn least(a: usize, b: usize) -> usize
-    ensures { result ≡ min a b }
+const LOG_REPORT: usize = REPORT + 1;
+
+// A room of any length gets the words or bytes that it has room for.
+fn lay<T: Copy>(words: &[T], room: &mut [T])
+    ensures { room.new ≡ take (min (length words.now) (length room.old)) words.now ++ drop (min (length words.now) (length room.old)) room.old }
 {
-    if a < b {
-        return a;
-    }
-    b
+    let n = words.len().min(room.len());
+    room[..n].copy_from_slice(&words[..n]);
 }
 
 #[unsafe(no_mangle)]
@@ -36,60 +37,33 @@ pub extern "C" fn yudronkha_version() -> usize
 
 // ---- a code
 
-// No number above the last code is one: they all answer as 0 does.
+// No number above the last code is one: those that are no u32 answer as 0 does.
 fn code_of(code: usize) -> u32
     ensures { (disabled result ≡ disabled code) × (short_name result ≡ short_name code) }
 {
-    if CODES < code {
-        return 0;
-    }
-    code as u32
-}
-
-fn numbered(s: EvalSeverity) -> usize
-    ensures { result ≡ numbered s }
-{
-    match s {
-        EvalSeverity::Disabled => 0,
-        EvalSeverity::Warning => 1,
-    }
+    u32::try_from(code).unwrap_or(0)
 }
 
 #[unsafe(no_mangle)]
 pub extern "C" fn yudronkha_severity(code: usize) -> usize
     ensures { result ≡ severity_number code }
 {
-    numbered(codes::severity(code_of(code)))
+    codes::severity(code_of(code)) as usize
 }
 
-// The first n bytes.
-fn spell(bytes: [u8; 26], n: usize, name: &mut [u8])
-    requires { (n ≤ 26) × (n ≤ length name.old) }
-    ensures { name.new ≡ over n bytes name.old }
-{
-    let mut k = 0;
-    while k < n {
-        name[k] = bytes[k];
-        k += 1;
-    }
-}
-
-// A room of any length gets the bytes that it has room for, and the length is the whole name's.
+// The length is the whole name's, however short the room.
 #[unsafe(no_mangle)]
 pub extern "C" fn yudronkha_short_name(code: usize, name: &mut [u8]) -> usize
     ensures { record { number = result; name = name.new } ≡ short_named code name.old }
 {
-    let s = codes::short_name(code_of(code));
-    let bytes = s.bytes;
-    let whole = s.length;
-    let n = least(whole, name.len());
-    spell(bytes, n, name);
-    whole
+    let whole = codes::short_name(code_of(code));
+    lay(whole, name);
+    whole.len()
 }
 
 // ---- the list
 
-fn number_of(o: Outcome) -> usize
+fn number_of(o: Result<usize, Refusal>) -> usize
     ensures { result ≡ number_of o }
 {
     match o {
@@ -98,55 +72,32 @@ fn number_of(o: Outcome) -> usize
     }
 }
 
-fn place_of(o: Outcome) -> usize
+fn place_of(o: Result<usize, Refusal>) -> usize
     ensures { result ≡ place_of o }
 {
-    match o {
-        Ok(n) => n,
-        Err(why) => why.place(),
-    }
+    o.unwrap_or_else(|why| why.place())
 }
 
-// Word k of a report: the count of a code stands at the code's own number.
-fn word(place: usize, tally: [usize; CODES], k: usize) -> usize
-    ensures { result ≡ get_or (place ∷ tally) k 0 }
+// The words of a report, and the bytes of a log after them: the count of a code stands at the code's own number.
+fn words_of(place: usize, tally: [usize; CODES], bytes: usize) -> [usize; LOG_REPORT]
+    ensures { (result ≡ (place ∷ tally) ++ (bytes ∷ [])) × (length result ≡ codes + 2) }
 {
-    if k < 1 {
-        return place;
-    }
-    if k < REPORT {
-        return tally[k - 1];
-    }
-    0
-}
-
-// A room of any length gets the words that it has room for.
-fn lay(place: usize, tally: [usize; CODES], report: &mut [usize])
-    ensures { report.new ≡ laid (place ∷ tally) report.old }
-{
-    let n = least(REPORT, report.len());
-    let mut k = 0;
-    while k < n {
-        report[k] = word(place, tally, k);
-        k += 1;
-    }
-}
-
-fn tell(a: Answer, report: &mut [usize]) -> usize
-    ensures { (result ≡ number_of a.outcome) × (report.new ≡ laid (report_of a) report.old) }
-{
-    let o = a.outcome;
-    let tally = a.tally;
-    lay(place_of(o), tally, report);
-    number_of(o)
+    let mut words = [bytes; LOG_REPORT];
+    words[0] = place;
+    words[1..REPORT].copy_from_slice(&tally);
+    words
 }
 
 fn call(t: &[u8], mode: Mode, work: &mut [u16], out: &mut [u32], report: &mut [usize]) -> usize
     ensures { record { number = result; work = work.new; room = out.new; report = report.new } ≡ called mode t.now work.old out.old report.old }
 {
-    tell(lint::lint(t, mode, work, out), report)
+    let a = lint::lint(t, mode, work, out);
+    let words = words_of(place_of(a.outcome), a.tally, 0);
+    lay(&words[..REPORT], report);
+    number_of(a.outcome)
 }
 
+// Kept: a function for each mode, since C names one by what it exports (yudronkha_lint and yudronkha_lint_strict; yudronkha_sarif likewise).
 // The joined call, ordinary keys.
 #[unsafe(no_mangle)]
 pub extern "C" fn yudronkha_lint(
@@ -175,42 +126,16 @@ pub extern "C" fn yudronkha_lint_strict(
 
 // ---- the list as a SARIF log
 
-fn as_listed(o: Logged) -> Outcome
+fn as_listed(o: Result<Sizes, Refusal>) -> Result<usize, Refusal>
     ensures { result ≡ as_listed o }
 {
-    match o {
-        Ok(n) => Ok(n.records),
-        Err(why) => Err(why),
-    }
+    o.map(|n| n.records)
 }
 
-fn bytes_of(o: Logged) -> usize
+fn bytes_of(o: Result<Sizes, Refusal>) -> usize
     ensures { result ≡ bytes_of o }
 {
-    match o {
-        Ok(n) => n.bytes,
-        Err(_) => 0,
-    }
-}
-
-// A log's report has its bytes after the counts.
-fn lay_log(place: usize, tally: [usize; CODES], bytes: usize, report: &mut [usize])
-    ensures { report.new ≡ laid ((place ∷ tally) ++ (bytes ∷ [])) report.old }
-{
-    lay(place, tally, report);
-    if REPORT < report.len() {
-        report[REPORT] = bytes;
-    }
-}
-
-fn tell_log(a: LogAnswer, report: &mut [usize]) -> usize
-    ensures { (result ≡ number_of (as_listed a.outcome)) × (report.new ≡ laid (log_report_of a) report.old) }
-{
-    let o = a.outcome;
-    let tally = a.tally;
-    let l = as_listed(o);
-    lay_log(place_of(l), tally, bytes_of(o), report);
-    number_of(l)
+    o.map_or(0, |n| n.bytes)
 }
 
 fn log_call(
@@ -223,7 +148,13 @@ fn log_call(
 ) -> usize
     ensures { record { number = result; work = work.new; room = out.new; output = output.new; report = report.new } ≡ sarif_called mode t.now work.old out.old output.old report.old }
 {
-    tell_log(sarif::sarif(t, mode, work, out, output), report)
+    let a = sarif::sarif(t, mode, work, out, output);
+    let listed = as_listed(a.outcome);
+    lay(
+        &words_of(place_of(listed), a.tally, bytes_of(a.outcome)),
+        report,
+    );
+    number_of(listed)
 }
 
 // The list as a SARIF log, ordinary keys.

@@ -50,11 +50,12 @@ module _ (t w : List ℕ) (n : ℕ) (few : n ≤ 1024) (o y : List ℕ) (a : Ans
       record { answers = λ u f v. rw (done_short (records_of t w n) u o y v (omega (arith, k, l)), answer_same a (p ∙ ap (λ (m : ℕ). Err (AnswerRoom m)) (sym k)) q) }
 
   pub listed_of : (s c : Sheet) → n ≤ length o / width → page s ≡ record { out = o; count = 0; tally = y }
-      → Added s c (records_of t w n) → a.outcome ≡ Ok c.count → a.tally ≡ c.tally → Answers (records_of t w n) o y a c.out.now
-  listed_of s c h start wr p q =
+      → Added s c (records_of t w n) → a.outcome ≡ Ok c.count → a.tally ≡ c.tally
+      → {o₁ : List ℕ} → o₁ ≡ c.out.now → Answers (records_of t w n) o y a o₁
+  listed_of s c h start wr p q e =
       let fresh : s.count ≡ 0 = ap (λ (z : Page). z.count) start in
       let k : c.count ≡ n = counted (records_of t w n) few_records o y s c fresh wr ∙ records_length t w n in
-      listed_done (records_of t w n) few_records o y s c fresh wr a s c (rw k h) start wr p q
+      rw e (listed_done (records_of t w n) few_records o y s c fresh wr a s c (rw k h) start wr p q)
 
 -- a part of k words that came back zero
 pub zeros_front : (k : ℕ) (v w : List ℕ) → k ≤ length w → v ≡ replicate (length (take k w)) 0 → v ++ drop k w ≡ replicate k 0 ++ drop k w

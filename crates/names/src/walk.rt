@@ -42,6 +42,8 @@ enum Binding {
 }
 
 // What the walk goes through: a file, and the number of the name fail.
+// Kept: w and s go beside it: with a `&mut` in it, each function below would promise too that t, fail and the reference stay.
+// Kept: fail is a number: where the file has no such name it is 65536, which no value's number equals, so nothing asks whether it is there.
 #[derive(Clone, Copy)]
 pub struct Walk<'a> {
     pub t: &'a [u8],
@@ -65,6 +67,7 @@ impl Walk<'_> {
         ensures { Goes self.now.t.now d (visit_of self.now.t.now self.now.fail (want_of wanted) i e) w.old s w.new result }
     {
         let mut c = i;
+        // Kept: each step is as long as the node itself says, so no range has these numbers.
         while c < e {
             s = self.step(c, wanted, d, w, s);
             c += size_at(self.t, c);
@@ -104,6 +107,7 @@ impl Walk<'_> {
         ensures { Goes self.now.t.now d (node_of self.now.t.now self.now.fail c) w.old s w.new result }
     {
         let k = kind_at(self.t, c);
+        // Kept: returns: a chain of else says no more, and tried, its frame is 3,288 bytes for 2,200, a scope for each arm.
         if k < Kind::Statements as usize {
             return self.stmt(c, k, d, w, s);
         }
@@ -120,6 +124,7 @@ impl Walk<'_> {
         requires { (k ≡ kind_at self.now.t.now c) × (k < 8) × Node self.now.t.now c d × Fits w.old s }
         ensures { Goes self.now.t.now d (node_of self.now.t.now self.now.fail c) w.old s w.new result }
     {
+        // Kept: returns: a chain of else says no more, and tried, its frame is 8,744 bytes for 4,408, a scope for each arm.
         if k == Kind::Return as usize {
             return self.ret(c, d, w, s);
         }
@@ -194,6 +199,7 @@ impl Walk<'_> {
         ensures { Goes self.now.t.now d (down_of self.now.t.now self.now.fail (of_role 5) c ⨟ node_bind self.now.t.now 5 c) w.old s w.new result }
     {
         s = self.down(c, Wanted::Of(Role::Target), d, w, s);
+        // Kept: s again and then s: tried with the call itself at the end, the frame is 4,408 bytes for 3,320.
         s = self.bind(c, Role::Target, Binding::Sets, w, s);
         s
     }
@@ -205,6 +211,7 @@ impl Walk<'_> {
         requires { (k ≡ kind_at self.now.t.now c) × (8 ≤ k) × (k < 14) × (d ≤ c) × Node self.now.t.now c d × Fits w.old s }
         ensures { Goes self.now.t.now d (node_of self.now.t.now self.now.fail c) w.old s w.new result }
     {
+        // Kept: returns: a chain of else says no more, and tried, its frame is 7,672 bytes for 4,408, a scope for each arm.
         if k == Kind::Statements as usize {
             return self.down(c, Wanted::Of(Role::Item), d, w, s);
         }
@@ -271,6 +278,7 @@ impl Walk<'_> {
         if 5 < n {
             return s;
         }
+        // Kept: s again and then s: tried with the call itself at the end, the frame is 4,440 bytes for 3,336.
         s = self.turn(c, n, w, s);
         s
     }
@@ -326,6 +334,7 @@ impl Walk<'_> {
         requires { (k ≡ kind_at self.now.t.now c) × (14 ≤ k) × Node self.now.t.now c d × Fits w.old s }
         ensures { Goes self.now.t.now d (node_of self.now.t.now self.now.fail c) w.old s w.new result }
     {
+        // Kept: returns: a chain of else says no more, and tried, its frame is 6,584 bytes for 4,424, a scope for each arm.
         if k == Kind::Identifier as usize {
             return s.used(self.t, w, c);
         }
@@ -399,6 +408,7 @@ impl Walk<'_> {
     {
         let e = c + size_at(self.t, c);
         let mut i = x + size_at(self.t, x);
+        // Kept: each step is as long as the node itself says, so no range has these numbers.
         while i < e {
             s = self.clause(i, d, w, s);
             i += size_at(self.t, i);
@@ -428,6 +438,7 @@ impl Walk<'_> {
     {
         let e = c + size_at(self.t, c);
         let mut i = c + 1;
+        // Kept: each step is as long as the node itself says, so no range has these numbers.
         while i < e {
             s = self.bind_one(i, role, binding, w, s);
             i += size_at(self.t, i);
@@ -445,6 +456,7 @@ impl Walk<'_> {
             return s;
         }
         let k = kind_at(self.t, i);
+        // Kept: returns: a chain of else says no more, and tried, its frame is 3,304 bytes for 2,216, a scope for each arm.
         if k == Kind::Several as usize {
             return self.bind(i, Role::Item, binding, w, s);
         }

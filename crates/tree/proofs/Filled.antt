@@ -1,5 +1,5 @@
--- The roles that nothing may stand in, and the ends of the walk over a row's digits. Assumes nothing.
-use Prim.Native.Nat.{ℕ, zero, suc, ◌+◌, ◌-◌, ◌≤◌, ◌<◌}
+-- The roles that nothing may stand in. Assumes nothing.
+use Prim.Native.Nat.{ℕ, ◌+◌}
 use native.Mathlib.Omega.{arith}
 use native.Mathlib.Decide.{ℕ_discrete as dec_eq}
 use mathlib.Core.Path.{◌≡◌, refl, sym, ap, ◌∙◌}
@@ -10,10 +10,9 @@ use lib.Dec.{eqb, leb}
 use borrow.Author.Tests.{ne_eqb}
 use Rattle.tree.specs.Bytes.{pick, role_at, kind_at}
 use Rattle.tree.specs.Children.{class_of, in_class, slot_of}
-use Rattle.tree.specs.code.Kids.{kids_stand, of_role, filled, kids_filled}
-use Rattle.tree.specs.code.Packed.{rows, digit_of, class_list, least_list, most_list}
-use Rattle.tree.proofs.Kids.{filled_more}
-use Rattle.tree.proofs.Slots.{cut, cut_nothing, digit_far, class_at, least_at, most_at}
+use Rattle.tree.specs.code.Kids.{kids_stand, of_role, filled}
+use Rattle.tree.specs.code.Packed.{digit_of, class_list, least_list, most_list}
+use Rattle.tree.proofs.Slots.{class_at, least_at, most_at}
 
 -- no kind is of the class `nothing`
 no_kind : (k : ℕ) → in_class 9 k ≡ false
@@ -59,15 +58,3 @@ module _ (t : List ℕ) (k : ℕ) (cs : List ℕ) (s : kids_stand t k cs ≡ tru
       let l : (slot_of k r).least ≡ 0 = sym (least_at k r) ∙ ap (λ (x : ℕ). get_or least_list x 0) d in
       let m : (slot_of k r).most ≡ 0 = sym (most_at k r) ∙ ap (λ (x : ℕ). get_or most_list x 0) d in
       simp (none_there t k r cs c s, l, m)
-
-  filled_on : (n r : ℕ) → n + r ≡ 9 → ((i : ℕ) → r ≤ i → digit_of k i ≡ 0) → kids_filled r t k cs ≡ true → kids_filled 9 t k cs ≡ true
-  filled_on zero r q z a = let e : r ≡ 9 = omega arith in rw e at a
-  filled_on (suc n) r q z a =
-      filled_on n (r + 1) (omega arith) (λ i h. z i (omega arith)) (filled_more r t k cs a (sym (filled_nothing r (z r (omega arith)))))
-
-  pub filled_far : 48 ≤ k → true ≡ kids_filled 9 t k cs
-  unfolding kids_filled
-  filled_far h = sym (filled_on 9 0 refl (λ i b. digit_far k i h) refl)
-
-  pub filled_rest : (r : ℕ) → k < 48 → r ≤ 9 → cut (get_or rows k 0) r ≡ 0 → kids_filled r t k cs ≡ true → true ≡ kids_filled 9 t k cs
-  filled_rest r h b z a = sym (filled_on (9 - r) r (omega arith) (cut_nothing k r h z) a)

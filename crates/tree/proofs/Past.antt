@@ -1,9 +1,9 @@
 -- Numbers past the end. Assumes nothing.
 use Prim.Native.Nat.{ℕ, ◌+◌, ◌≤◌}
 use native.Mathlib.Omega.{arith}
-use mathlib.Core.Path.{◌≡◌, refl, sym, ◌∙◌}
+use mathlib.Core.Path.{◌≡◌, sym, ◌∙◌}
 use mathlib.Core.List.{List}
-use mathlib.Core.Logic.{◌⊎◌, inl, inr}
+use mathlib.Core.Logic.{inl, inr}
 use lib.ListN.{length, get_or, get_or-eq_default}
 use Rattle.tree.specs.Bytes.{u16_at, u32_at}
 use Rattle.tree.specs.code.Offsets.{Place}

@@ -1,13 +1,12 @@
 -- The code's table of children agrees with the list of 01: one computed test. Assumes nothing.
-use Prim.Native.Nat.{ℕ, zero, suc, ◌+◌, ◌*◌, ◌/◌, ◌%◌, ◌^◌, ◌≤◌, ◌<◌}
+use Prim.Native.Nat.{ℕ, zero, suc, ◌/◌, ◌%◌, ◌^◌, ◌≤◌, ◌<◌}
 use native.Mathlib.Omega.{arith}
-use mathlib.Core.Path.{◌≡◌, refl, sym, ap, ◌∙◌}
+use mathlib.Core.Path.{◌≡◌, refl, sym, ◌∙◌}
 use mathlib.Core.List.{[], List, ◌∷◌}
 use mathlib.Core.Bool.{Bool, true, false, ◌&&◌}
 use lib.ListN.{get_or}
 use lib.Dec.{T, eqb, ltb, eqb→eq, ltb→lt}
 use native.Mathlib.Decide.{dec_lt}
-use native.Mathlib.Numerals.{add-one}
 use borrow.Author.Tests.{ne_eqb, lt-ltb, le-ltb}
 use Rattle.tree.specs.Bytes.{pick}
 use Rattle.tree.specs.Children.{Slot, slot, slots, slots_of, slot_in, slot_of}
@@ -161,69 +160,15 @@ most_at = field_at most_list (λ s. s.most) (λ k r a b. (right k r a b).most) (
 pub digit_small : (k r : ℕ) → k < 48 → r < 9 → digit_of k r < 13
 digit_small k r a b = rw (digit_in k r a b) (right k r a b).small
 
--- the digit as the code shifts to it
-shift_right : ℕ → Bool
-shift_right r = eqb (2 ^ (4 * r)) (16 ^ r)
+-- the code's table, a number for each role
+unfoldable pub row_list : List (List ℕ)
+row_list = (0 ∷ 0 ∷ 0 ∷ 0 ∷ 0 ∷ 0 ∷ 0 ∷ 0 ∷ 0 ∷ []) ∷ (0 ∷ 0 ∷ 0 ∷ 0 ∷ 0 ∷ 0 ∷ 0 ∷ 0 ∷ 0 ∷ []) ∷ (0 ∷ 0 ∷ 0 ∷ 0 ∷ 0 ∷ 0 ∷ 0 ∷ 0 ∷ 0 ∷ []) ∷ (0 ∷ 0 ∷ 0 ∷ 0 ∷ 0 ∷ 0 ∷ 0 ∷ 0 ∷ 0 ∷ []) ∷ (0 ∷ 0 ∷ 0 ∷ 0 ∷ 4 ∷ 0 ∷ 0 ∷ 0 ∷ 0 ∷ []) ∷ (0 ∷ 0 ∷ 0 ∷ 0 ∷ 3 ∷ 0 ∷ 0 ∷ 0 ∷ 0 ∷ []) ∷ (0 ∷ 0 ∷ 0 ∷ 4 ∷ 3 ∷ 7 ∷ 0 ∷ 0 ∷ 0 ∷ []) ∷ (0 ∷ 0 ∷ 0 ∷ 0 ∷ 3 ∷ 7 ∷ 0 ∷ 0 ∷ 0 ∷ []) ∷ (2 ∷ 0 ∷ 0 ∷ 0 ∷ 0 ∷ 0 ∷ 0 ∷ 0 ∷ 0 ∷ []) ∷ (0 ∷ 1 ∷ 0 ∷ 0 ∷ 3 ∷ 0 ∷ 0 ∷ 0 ∷ 0 ∷ []) ∷ (0 ∷ 1 ∷ 1 ∷ 0 ∷ 3 ∷ 0 ∷ 0 ∷ 0 ∷ 0 ∷ []) ∷ (0 ∷ 1 ∷ 0 ∷ 0 ∷ 3 ∷ 7 ∷ 0 ∷ 0 ∷ 0 ∷ []) ∷ (9 ∷ 1 ∷ 0 ∷ 4 ∷ 0 ∷ 0 ∷ 11 ∷ 0 ∷ 0 ∷ []) ∷ (12 ∷ 0 ∷ 0 ∷ 0 ∷ 0 ∷ 0 ∷ 0 ∷ 0 ∷ 0 ∷ []) ∷ (0 ∷ 0 ∷ 0 ∷ 0 ∷ 0 ∷ 0 ∷ 0 ∷ 0 ∷ 0 ∷ []) ∷ (0 ∷ 0 ∷ 0 ∷ 0 ∷ 0 ∷ 0 ∷ 0 ∷ 0 ∷ 0 ∷ []) ∷ (0 ∷ 0 ∷ 0 ∷ 0 ∷ 0 ∷ 0 ∷ 0 ∷ 0 ∷ 0 ∷ []) ∷ (0 ∷ 0 ∷ 0 ∷ 0 ∷ 0 ∷ 0 ∷ 0 ∷ 0 ∷ 0 ∷ []) ∷ (0 ∷ 0 ∷ 0 ∷ 0 ∷ 0 ∷ 0 ∷ 0 ∷ 0 ∷ 0 ∷ []) ∷ (0 ∷ 0 ∷ 0 ∷ 0 ∷ 0 ∷ 0 ∷ 0 ∷ 0 ∷ 0 ∷ []) ∷ (0 ∷ 0 ∷ 0 ∷ 0 ∷ 0 ∷ 0 ∷ 0 ∷ 0 ∷ 0 ∷ []) ∷ (0 ∷ 0 ∷ 0 ∷ 0 ∷ 0 ∷ 0 ∷ 0 ∷ 0 ∷ 0 ∷ []) ∷ (0 ∷ 0 ∷ 0 ∷ 0 ∷ 0 ∷ 0 ∷ 0 ∷ 0 ∷ 0 ∷ []) ∷ (5 ∷ 0 ∷ 0 ∷ 0 ∷ 0 ∷ 0 ∷ 0 ∷ 3 ∷ 0 ∷ []) ∷ (9 ∷ 3 ∷ 0 ∷ 0 ∷ 0 ∷ 0 ∷ 0 ∷ 0 ∷ 0 ∷ []) ∷ (10 ∷ 0 ∷ 0 ∷ 0 ∷ 3 ∷ 0 ∷ 0 ∷ 0 ∷ 0 ∷ []) ∷ (10 ∷ 0 ∷ 0 ∷ 0 ∷ 3 ∷ 0 ∷ 0 ∷ 0 ∷ 3 ∷ []) ∷ (5 ∷ 0 ∷ 0 ∷ 0 ∷ 0 ∷ 0 ∷ 0 ∷ 0 ∷ 0 ∷ []) ∷ (5 ∷ 0 ∷ 0 ∷ 0 ∷ 0 ∷ 0 ∷ 0 ∷ 0 ∷ 0 ∷ []) ∷ (0 ∷ 0 ∷ 0 ∷ 0 ∷ 5 ∷ 0 ∷ 0 ∷ 0 ∷ 5 ∷ []) ∷ (6 ∷ 0 ∷ 0 ∷ 0 ∷ 0 ∷ 0 ∷ 0 ∷ 0 ∷ 0 ∷ []) ∷ (0 ∷ 3 ∷ 3 ∷ 0 ∷ 0 ∷ 0 ∷ 0 ∷ 0 ∷ 0 ∷ []) ∷ (0 ∷ 3 ∷ 3 ∷ 0 ∷ 0 ∷ 0 ∷ 0 ∷ 0 ∷ 0 ∷ []) ∷ (5 ∷ 0 ∷ 0 ∷ 0 ∷ 0 ∷ 0 ∷ 0 ∷ 0 ∷ 0 ∷ []) ∷ (0 ∷ 0 ∷ 0 ∷ 0 ∷ 0 ∷ 0 ∷ 0 ∷ 0 ∷ 0 ∷ []) ∷ (0 ∷ 0 ∷ 0 ∷ 0 ∷ 0 ∷ 0 ∷ 0 ∷ 0 ∷ 0 ∷ []) ∷ (0 ∷ 0 ∷ 0 ∷ 0 ∷ 0 ∷ 0 ∷ 0 ∷ 0 ∷ 0 ∷ []) ∷ (0 ∷ 0 ∷ 0 ∷ 0 ∷ 0 ∷ 0 ∷ 0 ∷ 0 ∷ 0 ∷ []) ∷ (0 ∷ 0 ∷ 0 ∷ 0 ∷ 0 ∷ 0 ∷ 0 ∷ 0 ∷ 0 ∷ []) ∷ (0 ∷ 0 ∷ 0 ∷ 0 ∷ 0 ∷ 0 ∷ 0 ∷ 0 ∷ 0 ∷ []) ∷ (0 ∷ 0 ∷ 0 ∷ 0 ∷ 0 ∷ 0 ∷ 0 ∷ 0 ∷ 0 ∷ []) ∷ (8 ∷ 0 ∷ 0 ∷ 0 ∷ 0 ∷ 0 ∷ 0 ∷ 0 ∷ 0 ∷ []) ∷ (5 ∷ 0 ∷ 0 ∷ 0 ∷ 0 ∷ 0 ∷ 0 ∷ 0 ∷ 0 ∷ []) ∷ (5 ∷ 0 ∷ 0 ∷ 0 ∷ 0 ∷ 0 ∷ 0 ∷ 0 ∷ 0 ∷ []) ∷ (5 ∷ 0 ∷ 0 ∷ 0 ∷ 0 ∷ 0 ∷ 0 ∷ 0 ∷ 0 ∷ []) ∷ (0 ∷ 0 ∷ 0 ∷ 0 ∷ 3 ∷ 7 ∷ 0 ∷ 0 ∷ 0 ∷ []) ∷ (0 ∷ 0 ∷ 0 ∷ 0 ∷ 3 ∷ 0 ∷ 0 ∷ 0 ∷ 0 ∷ []) ∷ (0 ∷ 0 ∷ 0 ∷ 0 ∷ 0 ∷ 0 ∷ 0 ∷ 0 ∷ 0 ∷ []) ∷ []
 
-pub digit_read : (k r : ℕ) → k < 48 → r < 9 → get_or rows k 0 / 2 ^ (4 * r) % 16 ≡ digit_of k r
-unfolding digit shift_right below
-digit_read k r a b = rw (eqb→eq (2 ^ (4 * r)) (16 ^ r) (below_at 9 shift_right tt r b)) (sym (digit_in k r a b))
+row_right : List ℕ → ℕ → ℕ → Bool
+row_right d k r = eqb (get_or (get_or row_list k d) r 0) (digit (get_or rows k 0) r)
 
--- row x without its r lowest digits, as the code comes to it
-unfoldable pub cut : ℕ → ℕ → ℕ
-cut x zero = x
-cut x (suc r) = cut x r / 16
-
-cut_digit : ℕ → ℕ → Bool
-cut_digit x r = eqb (cut x r % 16) (digit x r)
-
-cut_right : ℕ → ℕ → Bool
-cut_right k x = below 9 (cut_digit x) && eqb (cut x 9) 0
-
-cut_at : (k : ℕ) → k < 48 → T (cut_right k (get_or rows k 0))
-unfolding rows cut cut_right cut_digit below digit
-cut_at k h = at cut_right rows tt k (omega arith)
-
-cut_read : (k r : ℕ) → k < 48 → r < 9 → cut (get_or rows k 0) r % 16 ≡ digit_of k r
-unfolding cut_right cut_digit
-cut_read k r a b =
-    let x = get_or rows k 0 in
-    let t = below_at 9 (cut_digit x) (and_l (below 9 (cut_digit x)) (eqb (cut x 9) 0) (cut_at k a)) r b in
-    eqb→eq (cut x r % 16) (digit x r) t ∙ sym (digit_in k r a b)
-
-cut_end : (k : ℕ) → k < 48 → cut (get_or rows k 0) 9 ≡ 0
-unfolding cut_right
-cut_end k a = let x = get_or rows k 0 in eqb→eq (cut x 9) 0 (and_r (below 9 (cut_digit x)) (eqb (cut x 9) 0) (cut_at k a))
-
-pub cut_none : (x : ℕ) → x ≡ cut x 0
-unfolding cut
-cut_none x = refl
-
-pub cut_more : (x r : ℕ) → cut x r / 16 ≡ cut x (r + 1)
-unfolding cut
-cut_more x r = rw add-one
-
--- nothing left stays nothing left
-cut_stays : (x r i : ℕ) → r ≤ i → cut x r ≡ 0 → cut x i ≡ 0
-unfolding cut
-cut_stays x r zero h z = let e : r ≡ 0 = omega arith in rw e at z
-cut_stays x r (suc i) h z = go (dec_lt r (suc i)) (λ l. cut_stays x r i l z)
-  where
-    go : Dec (r < suc i) → (r ≤ i → cut x i ≡ 0) → cut x i / 16 ≡ 0
-    go (yes l) g = ap (λ (n : ℕ). n / 16) (g (omega arith))
-    go (no l) g = let e : r ≡ suc i = omega arith in rw e at z
-
-pub cut_nothing : (k r : ℕ) → k < 48 → cut (get_or rows k 0) r ≡ 0 → (i : ℕ) → r ≤ i → digit_of k i ≡ 0
-cut_nothing k r a z i h = go (dec_lt i 9)
-  where
-    go : Dec (i < 9) → digit_of k i ≡ 0
-    go (yes l) = sym (cut_read k i a l) ∙ ap (λ (n : ℕ). n % 16) (cut_stays (get_or rows k 0) r i h z)
-    go (no l) = digit_past k i (omega arith)
-
--- while digits are left, the lowest is that of role r
-pub cut_here : (k r row : ℕ) → k < 48 → r ≤ 9 → row ≡ cut (get_or rows k 0) r → (row ≡ 0 → ⊥) → (r < 9) × (digit_of k r ≡ row % 16)
-cut_here k r row a b q n = go (dec_lt r 9)
-  where
-    go : Dec (r < 9) → (r < 9) × (digit_of k r ≡ row % 16)
-    go (yes l) = (l, rw q (sym (cut_read k r a l)))
-    go (no l) = let e : r ≡ 9 = omega arith in absurd (n (q ∙ rw e (cut_end k a)))
+pub row_read : (d : List ℕ) (k r : ℕ) → k < 48 → r < 9 → get_or (get_or row_list k d) r 0 ≡ digit_of k r
+unfolding digit row_right below rows row_list
+row_read d k r a b =
+    eqb→eq (get_or (get_or row_list k d) r 0) (digit (get_or rows k 0) r) (below_at 9 (row_right d k) (below_at 48 (λ j. below 9 (row_right d j)) tt k a) r b)
+    ∙ sym (digit_in k r a b)

@@ -26,6 +26,7 @@ pub(crate) fn bytes_are(t: &[u8], o: usize, name: &[u8]) -> bool
     true
 }
 
+// Kept: a reader for each size: each is one line over the next smaller one, and a loop over a size parameter would owe a law for each.
 pub fn u16_at(s: &[u8], at: usize) -> usize
     ensures { (result ≡ u16_at s.now at) × (result < 65536) }
 {

@@ -26,6 +26,7 @@ enum Class {
     Nothing = 9,
 }
 
+// Kept: ranges of numbers, since a pattern takes no `Kind::Break as usize`.
 #[tactic(auto, unfolding(crate::specs::Children::class_of))]
 fn class_of(k: usize) -> usize
     ensures { result ≡ class_of k }
@@ -41,59 +42,58 @@ fn class_of(k: usize) -> usize
     }
 }
 
-// The kinds and their children, a row for each kind, one number: most kinds have few roles or none, and a loop over the
-// digits ends where none is left (docs/SPEED.md, "judge"). The hex digit for role r, from the right, is the number of what
-// may stand in that role: 0 nothing, 1 one statement, 2 any; 3 one expression, 4 at most one, 5 any, 6 three;
-// 7 one target, 8 any; 9 any parameters; a some clauses; b a def's name; c any loaded names.
-const ROWS: [u64; 48] = [
-    0x0_0000_0000, // 0
-    0x0_0000_0000, // 1 break
-    0x0_0000_0000, // 2 continue
-    0x0_0000_0000, // 3 pass
-    0x0_0004_0000, // 4 return: at most one E4
-    0x0_0003_0000, // 5 expression: E4
-    0x0_0073_4000, // 6 assign: T5, at most one type E3, E4
-    0x0_0073_0000, // 7 assign-modify: T5, E4
-    0x0_0000_0002, // 8 statements: any S0
-    0x0_0003_0010, // 9 if: E4, S1
-    0x0_0003_0110, // 10 if-else: E4, S1, S2
-    0x0_0073_0010, // 11 for: T5, E4, S1
-    0x0_0b00_4019, // 12 def: its name, role 6; any P0; at most one type E3; S1
-    0x0_0000_000c, // 13 load: any loaded name, role 0
-    0x0_0000_0000, // 14
-    0x0_0000_0000, // 15
-    0x0_0000_0000, // 16
-    0x0_0000_0000, // 17
-    0x0_0000_0000, // 18
-    0x0_0000_0000, // 19
-    0x0_0000_0000, // 20 identifier
-    0x0_0000_0000, // 21 literal
-    0x0_0000_0000, // 22 ellipsis
-    0x0_3000_0005, // 23 call: E7, any E0
-    0x0_0000_0039, // 24 lambda: any P0, E1
-    0x0_0003_000a, // 25 list comprehension: E4, clauses C0
-    0x3_0003_000a, // 26 dict comprehension: E8, E4, clauses C0
-    0x0_0000_0005, // 27 tuple: any E0
-    0x0_0000_0005, // 28 list: any E0
-    0x5_0005_0000, // 29 dict: E8 and E4 in pairs
-    0x0_0000_0006, // 30 conditional: three E0
-    0x0_0000_0330, // 31 equal: E1, E2
-    0x0_0000_0330, // 32 not equal: E1, E2
-    0x0_0000_0005, // 33 other: any E0
-    0x0_0000_0000, // 34
-    0x0_0000_0000, // 35
-    0x0_0000_0000, // 36
-    0x0_0000_0000, // 37
-    0x0_0000_0000, // 38
-    0x0_0000_0000, // 39
-    0x0_0000_0000, // 40 name
-    0x0_0000_0008, // 41 several: any T0
-    0x0_0000_0005, // 42 index or dot: any E0
-    0x0_0000_0005, // 43 named parameter: any E0
-    0x0_0000_0005, // 44 unnamed parameter: any E0
-    0x0_0073_0000, // 45 for clause: T5, E4
-    0x0_0003_0000, // 46 if clause: E4
-    0x0_0000_0000, // 47 loaded name
+// The kinds and their children, a row for each kind. At role r stands the number of what may stand in that role: 0 nothing,
+// 1 one statement, 2 any; 3 one expression, 4 at most one, 5 any, 6 three; 7 one target, 8 any; 9 any parameters; 10 some clauses;
+// 11 a def's name; 12 any loaded names.
+const ROWS: [[u8; 9]; 48] = [
+    [0, 0, 0, 0, 0, 0, 0, 0, 0], // 0
+    [0, 0, 0, 0, 0, 0, 0, 0, 0], // 1 break
+    [0, 0, 0, 0, 0, 0, 0, 0, 0], // 2 continue
+    [0, 0, 0, 0, 0, 0, 0, 0, 0], // 3 pass
+    [0, 0, 0, 0, 4, 0, 0, 0, 0], // 4 return: at most one E4
+    [0, 0, 0, 0, 3, 0, 0, 0, 0], // 5 expression: E4
+    [0, 0, 0, 4, 3, 7, 0, 0, 0], // 6 assign: T5, at most one type E3, E4
+    [0, 0, 0, 0, 3, 7, 0, 0, 0], // 7 assign-modify: T5, E4
+    [2, 0, 0, 0, 0, 0, 0, 0, 0], // 8 statements: any S0
+    [0, 1, 0, 0, 3, 0, 0, 0, 0], // 9 if: E4, S1
+    [0, 1, 1, 0, 3, 0, 0, 0, 0], // 10 if-else: E4, S1, S2
+    [0, 1, 0, 0, 3, 7, 0, 0, 0], // 11 for: T5, E4, S1
+    [9, 1, 0, 4, 0, 0, 11, 0, 0], // 12 def: its name, role 6; any P0; at most one type E3; S1
+    [12, 0, 0, 0, 0, 0, 0, 0, 0], // 13 load: any loaded name, role 0
+    [0, 0, 0, 0, 0, 0, 0, 0, 0], // 14
+    [0, 0, 0, 0, 0, 0, 0, 0, 0], // 15
+    [0, 0, 0, 0, 0, 0, 0, 0, 0], // 16
+    [0, 0, 0, 0, 0, 0, 0, 0, 0], // 17
+    [0, 0, 0, 0, 0, 0, 0, 0, 0], // 18
+    [0, 0, 0, 0, 0, 0, 0, 0, 0], // 19
+    [0, 0, 0, 0, 0, 0, 0, 0, 0], // 20 identifier
+    [0, 0, 0, 0, 0, 0, 0, 0, 0], // 21 literal
+    [0, 0, 0, 0, 0, 0, 0, 0, 0], // 22 ellipsis
+    [5, 0, 0, 0, 0, 0, 0, 3, 0], // 23 call: E7, any E0
+    [9, 3, 0, 0, 0, 0, 0, 0, 0], // 24 lambda: any P0, E1
+    [10, 0, 0, 0, 3, 0, 0, 0, 0], // 25 list comprehension: E4, clauses C0
+    [10, 0, 0, 0, 3, 0, 0, 0, 3], // 26 dict comprehension: E8, E4, clauses C0
+    [5, 0, 0, 0, 0, 0, 0, 0, 0], // 27 tuple: any E0
+    [5, 0, 0, 0, 0, 0, 0, 0, 0], // 28 list: any E0
+    [0, 0, 0, 0, 5, 0, 0, 0, 5], // 29 dict: E8 and E4 in pairs
+    [6, 0, 0, 0, 0, 0, 0, 0, 0], // 30 conditional: three E0
+    [0, 3, 3, 0, 0, 0, 0, 0, 0], // 31 equal: E1, E2
+    [0, 3, 3, 0, 0, 0, 0, 0, 0], // 32 not equal: E1, E2
+    [5, 0, 0, 0, 0, 0, 0, 0, 0], // 33 other: any E0
+    [0, 0, 0, 0, 0, 0, 0, 0, 0], // 34
+    [0, 0, 0, 0, 0, 0, 0, 0, 0], // 35
+    [0, 0, 0, 0, 0, 0, 0, 0, 0], // 36
+    [0, 0, 0, 0, 0, 0, 0, 0, 0], // 37
+    [0, 0, 0, 0, 0, 0, 0, 0, 0], // 38
+    [0, 0, 0, 0, 0, 0, 0, 0, 0], // 39
+    [0, 0, 0, 0, 0, 0, 0, 0, 0], // 40 name
+    [8, 0, 0, 0, 0, 0, 0, 0, 0], // 41 several: any T0
+    [5, 0, 0, 0, 0, 0, 0, 0, 0], // 42 index or dot: any E0
+    [5, 0, 0, 0, 0, 0, 0, 0, 0], // 43 named parameter: any E0
+    [5, 0, 0, 0, 0, 0, 0, 0, 0], // 44 unnamed parameter: any E0
+    [0, 0, 0, 0, 3, 7, 0, 0, 0], // 45 for clause: T5, E4
+    [0, 0, 0, 0, 3, 0, 0, 0, 0], // 46 if clause: E4
+    [0, 0, 0, 0, 0, 0, 0, 0, 0], // 47 loaded name
 ];
 
 // What may stand in one role: of which class, how many at least and at most.
@@ -104,9 +104,9 @@ struct Form {
     most: usize,
 }
 
-// What the digits of ROWS stand for. No file has more than 1,024 nodes: that many are any number.
-// Kept: a match in place of a constant table of forms. Such a table is made anew on the stack at each use: judging 1,021 nodes took
-// 610,374 instructions with it, 443,807 with this.
+// What the numbers of ROWS stand for. No file has more than 1,024 nodes: that many are any number.
+// Kept: a match and no constant table of forms: tried, and the table is made anew on the stack at each use; judging took 1.38 times as
+// many instructions with it.
 #[tactic(auto, unfolding(crate::specs::code::Packed::class_list, crate::specs::code::Packed::least_list, crate::specs::code::Packed::most_list))]
 fn form_of(d: usize) -> Form
     requires { d < 13 }
@@ -137,7 +137,7 @@ fn slot_number(k: usize, r: usize) -> usize
     ensures { (result ≡ digit_of k r) × (result < 13) }
 {
     if k < 48 && r < 9 {
-        ((ROWS[k] >> (4 * r)) % 16) as usize
+        usize::from(ROWS[k][r])
     } else {
         0
     }
@@ -159,7 +159,8 @@ fn stands(c: usize, k: usize) -> bool
     }
 }
 
-// The children of a node: whole subtrees, from node `from` up to `end`. The loops over them step by the sizes that they read.
+// The children of a node: whole subtrees, from node `from` up to `end`.
+// Kept: loops over them that step by the sizes that they read.
 #[derive(Clone, Copy)]
 struct Kids<'a> {
     t: &'a [u8],
@@ -211,23 +212,14 @@ impl Kids<'_> {
         form.least <= m && m <= form.most
     }
 
-    // Digit by digit while any is left of the kind's row.
     fn all_filled(&self, k: usize) -> bool
         requires { kids_stand self.now.t.now k (kids_from self.now.t.now self.now.from self.now.end) ≡ true }
         ensures { result ≡ kids_filled 9 self.now.t.now k (kids_from self.now.t.now self.now.from self.now.end) }
     {
-        if 48 <= k {
-            return true;
-        }
-        let mut row = ROWS[k];
-        let mut r = 0;
-        while row != 0 {
-            let d = (row % 16) as usize;
-            if !self.role_filled(d, r) {
+        for r in 0..9 {
+            if !self.role_filled(slot_number(k, r), r) {
                 return false;
             }
-            row /= 16;
-            r += 1;
         }
         true
     }
@@ -315,6 +307,7 @@ pub(crate) fn check_children(t: &[u8], n: usize, nv: usize) -> Result<(), Refusa
 }
 
 // The first of the siblings from node `from` up to `e` that has the role.
+// Kept: a loop that steps by the sizes that it reads, and ends at a size of 0: nothing is asked of the file.
 pub fn child_of(t: &[u8], role: usize, from: usize, e: usize) -> Option<usize>
     ensures { result ≡ first_child t.now role from e }
 {

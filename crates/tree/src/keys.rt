@@ -96,14 +96,9 @@ fn float_key(t: &[u8], starts: &[usize; 512], mode: Mode, v: usize, b: usize) ->
     requires { Starts t.now starts.now × (v < 512) × (v < value_count t.now) }
     ensures { (result ≡ lead (table_of t.now) v (counted mode (whole b))) × (result < 65536) }
 {
-    let f = float_of(b);
-    let Some(w) = f else {
-        return v;
-    };
-    if counts_in(mode, w) {
-        integer_number(t, starts, v, w)
-    } else {
-        v
+    match float_of(b) {
+        Some(w) if counts_in(mode, w) => integer_number(t, starts, v, w),
+        _ => v,
     }
 }
 

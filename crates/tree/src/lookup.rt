@@ -11,6 +11,9 @@ use crate::bytes::{byte_at, bytes_are, global_count, node_count, u16_at, value_c
 use crate::kinds::ValueKind;
 use crate::values::offset_of;
 
+// The count of globals that says that they are not given.
+pub(crate) const NOT_GIVEN: usize = 65535;
+
 // The value at o is the name of these bytes.
 fn spelled_at(t: &[u8], o: usize, name: &[u8]) -> bool
     requires { o < 4300000000 }
@@ -93,14 +96,14 @@ pub fn strings(t: &[u8]) -> [bool; 512]
 pub fn globals_given(t: &[u8]) -> bool
     ensures { result ≡ not (eqb (global_count t.now) 65535) }
 {
-    global_count(t) != 65535
+    global_count(t) != NOT_GIVEN
 }
 
 // How many globals a file lists, whose header has this number of them.
 pub(crate) fn listed_of(g: usize) -> usize
     ensures { (result ≡ listed g) × (result ≤ g) }
 {
-    if g == 65535 { 0 } else { g }
+    if g == NOT_GIVEN { 0 } else { g }
 }
 
 pub fn is_global(t: &[u8], v: usize) -> bool

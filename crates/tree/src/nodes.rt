@@ -9,6 +9,9 @@ use crate::bytes::{begin_at, end_at, kind_at, last_at, size_at, u16_at, value_at
 use crate::kinds::Kind;
 use crate::{Facts, Refusal};
 
+// The value number of a node that has no value.
+const NO_VALUE: usize = 65535;
+
 // A file whose values are in form, what it says of itself, and the parents of its nodes.
 #[derive(Clone, Copy)]
 pub(crate) struct File<'a> {
@@ -47,6 +50,7 @@ pub(crate) fn parents(t: &[u8], n: usize) -> [u16; 1024]
     par
 }
 
+// Kept: ranges of numbers, since a pattern takes no `Kind::Break as usize`.
 #[tactic(auto, unfolding(crate::specs::Nodes::known))]
 fn is_known(k: usize) -> bool
     ensures { result ≡ known k }
@@ -85,7 +89,7 @@ impl File<'_> {
         } else if has_name(k) {
             v < self.says.names
         } else {
-            v == 65535
+            v == NO_VALUE
         }
     }
 

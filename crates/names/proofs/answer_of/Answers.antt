@@ -1,3 +1,4 @@
+use Rattle.std.proofs.Common.{rules}
 use mathlib.Core.Path.{sym, ◌∙◌}
 use Rattle.names.proofs.Telling.{short_of, listed_of}
 use Rattle.names.proofs.answer_of.Goals as goal
@@ -8,5 +9,5 @@ returns-then-out-n c =
 
 pub returns : goal.returns
 returns c =
-    let e = c.out-1.given.1.1 (sym (c.records.ensures.same_room ∙ c.new-sheet.ensures.1)) in
-    rw e (listed_of _ _ c.args.n c.requires c.args.out.now _ c.listed.result c.new-sheet.result c.records.new.sheet c.if-out-n.false c.new-sheet.ensures.0 c.records.ensures c.listed.ensures.0 c.listed.ensures.1)
+    listed_of _ _ c.args.n c.requires c.args.out.now _ c.listed.result c.new-sheet.result c.records.new.sheet c.if-out-n.false c.new-sheet.ensures.0 c.records.ensures c.listed.ensures.0 c.listed.ensures.1
+    (search (rules, c.records.ensures.same_room, c.new-sheet.ensures.1))

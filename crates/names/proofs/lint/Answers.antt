@@ -6,9 +6,6 @@ use Rattle.names.proofs.FirstMet.{walk_records}
 use mathlib.Core.Path.{◌∙◌, ap}
 use Rattle.names.proofs.lint.Goals as goal
 
-pub first_nodes-requires : goal.first_nodes-requires
-first_nodes-requires c = (c.requires.0.part, c.walked-r.ensures.0, omega (arith, c.requires.1, c.walked-r.auto.w))
-
 pub returns : goal.returns
 returns c =
     let walked = c.walked-r in

@@ -11,12 +11,9 @@ pub returns-then-work-lt-WORK_WORDS : goal.returns-then-work-lt-WORK_WORDS
 returns-then-work-lt-WORK_WORDS c =
     unlent _ _ c.requires (names_list c.args.t.now) _ _ _ _ c.if-work-lt-WORK_WORDS.true c.refused.ensures.0 c.refused.ensures.1
 
-pub slice_bounds-lint-end-2 : goal.slice_bounds-lint-end-2
-slice_bounds-lint-end-2 c = sym (length-take-le work_words c.args.work.now c.if-work-lt-WORK_WORDS.false)
-
 pub lint-requires : goal.lint-requires
 lint-requires c = (
-  file_ready c.args.t.now c.args.f c.requires (λ k. omega (arith, c.shared_slice_known-1.given k)),
+  file_ready c.args.t.now c.args.f c.requires (λ k. omega (arith, c.type_inv.t k)),
   omega (arith, length-take-le work_words c.args.work.now c.if-work-lt-WORK_WORDS.false),
 )
 
@@ -24,5 +21,5 @@ pub returns : goal.returns
 returns c =
     let t = c.args.t.now in
     lent t _ c.requires (names_list t) c.args.work.now c.args.out.now c.args.tally _ _ _ c.if-work-lt-WORK_WORDS.false
-    (rw (file_names t _ c.requires (λ k. omega (arith, c.shared_slice_known-1.given k))) at c.lint.ensures.0)
+    (rw (file_names t _ c.requires (λ k. omega (arith, c.type_inv.t k))) at c.lint.ensures.0)
     (zeros_front work_words _ c.args.work.now c.if-work-lt-WORK_WORDS.false c.lint.ensures.1)

@@ -8,9 +8,6 @@ use Rattle.names.proofs.walked.Goals as goal
 pub visit-s-requires : goal.visit-s-requires
 visit-s-requires c = (c.requires.0.part, omega arith, new_fits c.requires.1 c.new.ensures)
 
-pub closed-requires : goal.closed-requires
-closed-requires c = goes_fits c.visit-s.ensures
-
 pub returns : goal.returns
 returns c = (
   c.closed.ensures.2,

@@ -2,7 +2,6 @@ use Prim.Native.Nat.{ℕ}
 use mathlib.Core.Path.{◌≡◌, sym, ◌∙◌}
 use mathlib.Core.List.{List}
 use mathlib.Core.Bool.{true}
-use Rattle.std.specs.Prelude.{Err}
 use Rattle.tree.specs.Bytes.{node_count, value_count, global_count}
 use Rattle.tree.specs.Judge.{Judged, judged, marked, versioned}
 use Rattle.tree.specs.code.Stages.{staged, judged3}

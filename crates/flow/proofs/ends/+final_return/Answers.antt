@@ -28,7 +28,7 @@ returns-else-final_return t c =
     let a = sym (rw c.size_at.ensures.0 at c.final_return-then-k-3.ensures) ∙ c.if-final_return.false in
     c.if-final_return.false ∙ (rw a at (ends_sides (λ v. eqb v c.args.fail) c.in-Some.ensures (sym c.kind_at-k.ensures.0 ∙ c.if-k-3.true)))
 
-pub returns : goal.returns
-returns t c =
+pub returns-else-k-3 : goal.returns-else-k-3
+returns-else-k-3 t c =
     let k = c.kind_at-k.ensures.0 in
     rw k (ends_other (λ v. eqb v c.args.fail) c.in-Some.ensures (λ z. c.if-k.false (k ∙ z)) (λ z. c.if-k-2.false (k ∙ z)) (λ z. c.if-k-3.false (k ∙ z)))

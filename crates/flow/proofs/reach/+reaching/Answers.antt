@@ -59,8 +59,8 @@ pub reachable-returns-then-stops : goal.reachable-returns-then-stops
 reachable-returns-then-stops t c =
     walked_as (walked_still _ true) (here_stops (is_name c.args.fail) c.args.t.now c.args.i c.kind_at-k.ensures.0 (sym c.stops.ensures ∙ c.if-stops.true))
 
-pub reachable-returns : goal.reachable-returns
-reachable-returns t c =
+pub reachable-returns-else-stops : goal.reachable-returns-else-stops
+reachable-returns-else-stops t c =
     let k = c.kind_at-k.ensures.0 in
     each_walked (is_name c.args.fail) c.args.t.now c.args.i (ap (λ (x : ℕ). c.args.i + x) c.size_at.ensures.0) k (sym c.stops.ensures ∙ c.if-stops.false) (λ z. c.if-k-3.false (k ∙ z)) (λ z. c.if-k.false (k ∙ z)) (λ z. c.if-k-2.false (k ∙ z)) c.each.ensures
 

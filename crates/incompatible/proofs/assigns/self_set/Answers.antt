@@ -14,8 +14,8 @@ returns-then-value_at c =
     self_found c.requires.0 c.requires.1 c.in_ok-x.ensures c.in_ok-y.ensures (sym c.kind_at.ensures.0 ∙ c.if-kind_at.true) (sym c.kind_at-then-kind_at.ensures.0 ∙ c.if-kind_at-2.true)
     (sym c.value_at.ensures.0 ∙ c.if-value_at.true ∙ c.value_at-then-kind_at-2.ensures.0)
 
-pub returns : goal.returns
-returns c =
+pub returns-else-kind_at : goal.returns-else-kind_at
+returns-else-kind_at c =
     let p = c.requires.0 in
     let le = c.requires.1 in
     elim c.else-kind_at.branch [

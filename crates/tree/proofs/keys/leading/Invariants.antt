@@ -1,4 +1,4 @@
-use Prim.Native.Nat.{◌+◌, ◌-◌, ◌≤◌, ◌<◌}
+use Prim.Native.Nat.{◌+◌, ◌-◌, ◌<◌}
 use mathlib.Core.Path.{◌≡◌}
 use Rattle.tree.specs.Bytes.{bytes_from}
 use Rattle.tree.specs.Values.{magnitude, onward}

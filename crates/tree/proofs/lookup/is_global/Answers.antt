@@ -1,7 +1,6 @@
-use Prim.Native.Nat.{◌+◌, ◌*◌, ◌-◌}
 use native.Mathlib.Omega.{arith}
-use mathlib.Core.Path.{◌≡◌, sym, ◌∙◌}
-use Rattle.tree.proofs.TableLaws.{listed_here, listed_next, listed_end}
+use mathlib.Core.Path.{◌∙◌}
+use Rattle.tree.proofs.TableLaws.{listed_next}
 use Rattle.tree.proofs.lookup.is_global.Goals as goal
 
 pub loop-i-preserved : goal.loop-i-preserved

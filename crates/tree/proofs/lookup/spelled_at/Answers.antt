@@ -1,6 +1,5 @@
-use borrow.Author.Tests.{eq-eqb, eqb-true, eqb-false, ne_eqb}
+use borrow.Author.Tests.{eq-eqb, eqb-false, ne_eqb}
 use Prim.Native.Nat.{◌+◌}
-use native.Mathlib.Omega.{arith}
 use mathlib.Core.Path.{◌≡◌, sym, ◌∙◌}
 use mathlib.Core.Bool.{false}
 use Rattle.tree.specs.Bytes.{bytes_from, u16_at}

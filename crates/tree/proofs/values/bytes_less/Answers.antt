@@ -1,6 +1,5 @@
-use borrow.Author.Tests.{lt-ltb, le-ltb}
 use native.Mathlib.Omega.{arith}
-use mathlib.Core.Path.{◌≡◌, sym, ◌∙◌}
+use mathlib.Core.Path.{sym, ◌∙◌}
 use Rattle.tree.proofs.ValueLaws.{less_differ, less_eq, less_end}
 use Rattle.tree.proofs.values.bytes_less.Goals as goal
 

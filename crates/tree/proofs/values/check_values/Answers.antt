@@ -1,12 +1,12 @@
 use borrow.Author.Tests.{le-ltb}
-use Prim.Native.Nat.{◌+◌, ◌-◌, ◌<◌, ◌≤◌}
+use Prim.Native.Nat.{◌+◌, ◌-◌}
 use native.Mathlib.Omega.{arith}
 use mathlib.Core.Path.{◌≡◌, sym, ◌∙◌}
 use mathlib.Core.Bool.{true, false}
 use Rattle.tree.specs.Values.{offset}
 use Rattle.tree.specs.declared.Refusal.TheVariants.{Value}
 use Rattle.tree.specs.code.Stages.{bad5}
-use Rattle.tree.specs.code.Offsets.{formed_at, ordered_at}
+use Rattle.tree.specs.code.Offsets.{formed_at}
 use Rattle.tree.proofs.Search.{clash, clear_more, lowest_at, not_so, not_this}
 use Rattle.tree.proofs.Names.{five_form, five_order, five_ok, five_first}
 use Rattle.tree.proofs.ValueLaws.{offset_start, offset_step}

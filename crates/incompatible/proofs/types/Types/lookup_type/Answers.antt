@@ -15,8 +15,8 @@ returns-then-names_type c =
       spot_is 2 c.requires.0 c.requires.1 c.in_ok-j.ensures,
     )
 
-pub returns : goal.returns
-returns c =
+pub returns-else-kind_at : goal.returns-else-kind_at
+returns-else-kind_at c =
     let q = five c.args.self.now in
     elim c.else-kind_at.branch [
       | else-kind_at-via-then-kind_at+else-names_type w ↦

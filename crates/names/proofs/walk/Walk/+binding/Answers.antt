@@ -4,19 +4,13 @@ use borrow.Author.Tests.{eq-eqb, ne_eqb}
 use native.Mathlib.Omega.{arith}
 use mathlib.Core.Path.{refl, sym, ap, ◌∙◌}
 use Rattle.tree.specs.Bytes.{role_at}
-use Rattle.tree.proofs.Laws.{rest, sized, ended}
+use Rattle.tree.proofs.Laws.{rest, ended}
 use Rattle.names.proofs.Going.{skips, goes_as, goes_fits}
-use Rattle.names.proofs.Parts.{node_in_part, node_few, name_several, name_name, name_other}
+use Rattle.names.proofs.Parts.{node_in_part, name_several, name_name, name_other}
 use Rattle.names.specs.Walk.{number, used_by}
 use Rattle.names.proofs.Roles.{cast}
 use Rattle.names.proofs.Rows.{names_on, names_last, kids_as, names_as, pick_true, pick_false, name_so}
 use Rattle.names.proofs.walk.Walk.+binding.Goals as goal
-
-pub bind-overflow_add-e : goal.bind-overflow_add-e
-bind-overflow_add-e t c = omega (arith, c.size_at.ensures.0, node_few c.requires.0, c.requires.0.part.few)
-
-pub bind-overflow_add-i : goal.bind-overflow_add-i
-bind-overflow_add-i t c = omega (arith, node_few c.requires.0)
 
 pub bind-loop-i-init : goal.bind-loop-i-init
 bind-loop-i-init t c =
@@ -25,14 +19,6 @@ bind-loop-i-init t c =
 pub bind-bind_one-s-requires : goal.bind-bind_one-s-requires
 bind-bind_one-s-requires t c =
     let p = c.loop-i.invariant.2 in let n = ended p c.loop-i-test.true in (omega (arith, c.decreases, c.loop-i.invariant.0, c.loop-i.invariant.1), (node_in_part p c.loop-i-test.true (omega arith), c.loop-i.invariant.3))
-
-pub bind-overflow_add-i-in-loop-i : goal.bind-overflow_add-i-in-loop-i
-bind-overflow_add-i-in-loop-i t c =
-    omega (arith, c.size_at-i.ensures.0, ended c.loop-i.invariant.2 c.loop-i-test.true, c.loop-i.invariant.2.few)
-
-pub bind-loop-i-smaller : goal.bind-loop-i-smaller
-bind-loop-i-smaller t c =
-    omega (arith, c.size_at-i.ensures.0, ended c.loop-i.invariant.2 c.loop-i-test.true, sized c.loop-i.invariant.2 c.loop-i-test.true, c.loop-i-test.true)
 
 pub bind-loop-i-preserved : goal.bind-loop-i-preserved
 bind-loop-i-preserved t c =
@@ -48,15 +34,9 @@ pub bind_one-returns-then-role_at-role : goal.bind_one-returns-then-role_at-role
 bind_one-returns-then-role_at-role t c =
     λ d. pick_false _ (ne_eqb (number c.args.role) (role_at c.args.self.now.t.now c.args.i) (λ z. c.if-role_at-role.true (c.role_at.ensures.0 ∙ sym z ∙ sym (cast c.args.role)))) _ _ (skips c.requires.1)
 
-pub bind_one-bind-requires : goal.bind_one-bind-requires
-bind_one-bind-requires t c = (omega (arith, c.decreases), (c.requires.0, c.requires.1))
-
 pub bind_one-returns-then-k : goal.bind_one-returns-then-k
 bind_one-returns-then-k t c =
     λ d. pick_true _ (eq-eqb (number c.args.role) (role_at c.args.self.now.t.now c.args.i) (sym (cast c.args.role) ∙ sym c.if-role_at-role.false ∙ c.role_at.ensures.0)) _ _ (goes_as (name_several c.args.self.now.t.now c.args.i (used_by c.args.binding) (sym c.kind_at-k.ensures.0 ∙ c.if-k.true)) (c.bind.ensures d))
-
-pub bind_one-ident-requires : goal.bind_one-ident-requires
-bind_one-ident-requires t c = (c.requires.0, c.requires.1)
 
 pub bind_one-returns-then-binds_name : goal.bind_one-returns-then-binds_name
 bind_one-returns-then-binds_name t c =

@@ -14,46 +14,18 @@ use Rattle.scope.specs.declared.Abort.TheVariants.{Function, Loop}
 use Rattle.tree.proofs.Laws.{rest, sized, ended}
 use Rattle.names.proofs.walk.Walk.+walking.Goals as goal
 
-pub assign-down-s-requires : goal.assign-down-s-requires
-assign-down-s-requires t c = (omega (arith, c.decreases), (c.requires.0, c.requires.1))
-
-pub assign-bind-s-requires : goal.assign-bind-s-requires
-assign-bind-s-requires t c = (node_zero c.requires.0, (goes_fits c.down-s.ensures))
-
 pub assign-returns : goal.assign-returns
 assign-returns t c = then c.down-s.ensures (c.bind-s.ensures c.args.d)
-
-pub block-down-requires : goal.block-down-requires
-block-down-requires t c = (omega (arith, c.decreases), (c.requires.4, c.requires.5))
 
 pub block-returns-then-k : goal.block-returns-then-k
 block-returns-then-k t c = goes_as (node_statements _ _ _ (sym c.requires.0 ∙ c.if-k.true)) c.down.ensures
 
-pub block-def-requires : goal.block-def-requires
-block-def-requires t c = (omega (arith, c.decreases), ((sym c.requires.0 ∙ c.if-k-2.true), c.requires.4, c.requires.5))
-
-pub block-returns-then-k-2 : goal.block-returns-then-k-2
-block-returns-then-k-2 t c = c.def.ensures
-
-pub block-bind-requires : goal.block-bind-requires
-block-bind-requires t c = (node_zero c.requires.4, c.requires.5)
-
 pub block-returns-then-k-3 : goal.block-returns-then-k-3
 block-returns-then-k-3 t c = goes_as (node_load _ _ _ (sym c.requires.0 ∙ c.if-k-3.true)) (c.bind.ensures c.args.d)
-
-pub block-loops-requires : goal.block-loops-requires
-block-loops-requires t c =
-    (omega (arith, c.decreases), ((sym c.requires.0 ∙ c.if-k-4.true), c.requires.3, c.requires.4, c.requires.5))
-
-pub block-returns-then-k-4 : goal.block-returns-then-k-4
-block-returns-then-k-4 t c = c.loops.ensures
 
 pub block-cond-requires : goal.block-cond-requires
 block-cond-requires t c =
     (omega (arith, c.decreases), (c.requires.0, nine_on c.requires.1 c.if-k.false, eleven_off c.requires.2 c.if-k-2.false c.if-k-3.false c.if-k-4.false, c.requires.4, c.requires.5))
-
-pub block-returns : goal.block-returns
-block-returns t c = c.cond.ensures
 
 pub body-bind-inner-requires : goal.body-bind-inner-requires
 body-bind-inner-requires t c = (node_zero c.requires.0, enter_fits c.enter.ensures c.requires.1)
@@ -78,15 +50,9 @@ bound-later-requires t c = let b = first_below c.requires.1 (sym c.in-Some.is �
 pub bound-returns : goal.bound-returns
 bound-returns t c = goes_as (bound_there _ _ c.requires.1 (sym c.in-Some.is ∙ c.requires.0)) (regroup (then c.assign-s.ensures c.later.ensures))
 
-pub branch-down-a-requires : goal.branch-down-a-requires
-branch-down-a-requires t c = (omega (arith, c.decreases), (c.requires.0, c.requires.1))
-
 pub branch-down-b-requires : goal.branch-down-b-requires
 branch-down-b-requires t c =
     (omega (arith, c.decreases), (c.requires.0, (back_fits c.back.ensures c.requires.1 (goes_fits c.down-a.ensures) c.down-a.ensures.does.kept)))
-
-pub branch-join-requires : goal.branch-join-requires
-branch-join-requires t c = (goes_fits c.down-b.ensures).settings
 
 pub branch-returns : goal.branch-returns
 branch-returns t c = sides_to (methods _) c.requires.1 c.down-a.ensures c.back.ensures c.down-b.ensures c.join.ensures
@@ -95,21 +61,9 @@ pub clause-returns-then-role_at : goal.clause-returns-then-role_at
 clause-returns-then-role_at t c =
     goes_as (clause_none _ _ _ (λ z. c.if-role_at.true (c.role_at.ensures.0 ∙ z))) (skips c.requires.1)
 
-pub clause-down-s-requires : goal.clause-down-s-requires
-clause-down-s-requires t c = (omega (arith, c.decreases), (c.requires.0, c.requires.1))
-
-pub clause-assign-requires : goal.clause-assign-requires
-clause-assign-requires t c = (omega (arith, c.decreases), (c.requires.0, (goes_fits c.down-s.ensures)))
-
 pub clause-returns : goal.clause-returns
 clause-returns t c =
     goes_as (clause_there _ _ _ (sym c.role_at.ensures.0 ∙ c.if-role_at.false)) (then c.down-s.ensures c.assign.ensures)
-
-pub comp-overflow_add-e : goal.comp-overflow_add-e
-comp-overflow_add-e t c = omega (arith, c.size_at.ensures.0, node_few c.requires.0, c.requires.0.part.few)
-
-pub comp-overflow_add-c : goal.comp-overflow_add-c
-comp-overflow_add-c t c = omega (arith, node_few c.requires.0)
 
 pub comp-over-s-requires : goal.comp-over-s-requires
 comp-over-s-requires t c =
@@ -127,30 +81,12 @@ pub comp-returns : goal.comp-returns
 comp-returns t c =
     then c.over-s.ensures (scopes_to (methods _) (goes_fits c.over-s.ensures) c.enter.ensures c.rest-inner.ensures c.leave.ensures.0 c.leave.ensures.1)
 
-pub cond-down-s-requires : goal.cond-down-s-requires
-cond-down-s-requires t c = (omega (arith, c.decreases), (c.requires.3, c.requires.4))
-
-pub cond-side-requires : goal.cond-side-requires
-cond-side-requires t c = (omega (arith, c.decreases), (c.requires.3, (goes_fits c.down-s.ensures)))
-
 pub cond-returns-then-k : goal.cond-returns-then-k
 cond-returns-then-k t c = goes_as (node_if _ _ _ (sym c.requires.0 ∙ c.if-k.true)) (then c.down-s.ensures c.side.ensures)
-
-pub cond-branch-self-requires : goal.cond-branch-self-requires
-cond-branch-self-requires t c = (omega (arith, c.decreases), (c.requires.3, (goes_fits c.down-s.ensures)))
 
 pub cond-returns-else-k : goal.cond-returns-else-k
 cond-returns-else-k t c =
     goes_as (node_if_else _ _ _ (sym c.requires.0 ∙ ten_left c.requires.1 c.requires.2 c.if-k.false)) (then c.down-s.ensures c.branch-self.ensures)
-
-pub def-down-s-requires : goal.def-down-s-requires
-def-down-s-requires t c = (omega (arith, c.decreases), (c.requires.1, c.requires.2))
-
-pub def-down-s-requires-2 : goal.def-down-s-requires-2
-def-down-s-requires-2 t c = (omega (arith, c.decreases), (c.requires.1, (goes_fits c.down-s.ensures)))
-
-pub def-bind-s-requires : goal.def-bind-s-requires
-def-bind-s-requires t c = (node_zero c.requires.1, (goes_fits c.down-s-2.ensures))
 
 pub def-body-requires : goal.def-body-requires
 def-body-requires t c = (omega (arith, c.decreases), (c.requires.1, goes_fits (c.bind-s.ensures c.args.d)))
@@ -159,27 +95,12 @@ pub def-returns : goal.def-returns
 def-returns t c =
     goes_as (node_def _ _ _ c.requires.0) (then c.down-s.ensures (then c.down-s-2.ensures (then (c.bind-s.ensures c.args.d) c.body.ensures)))
 
-pub down-overflow_add-e : goal.down-overflow_add-e
-down-overflow_add-e t c = omega (arith, c.size_at.ensures.0, node_few c.requires.0, c.requires.0.part.few)
-
-pub down-overflow_add-c : goal.down-overflow_add-c
-down-overflow_add-c t c = omega (arith, node_few c.requires.0)
-
 pub down-visit-requires : goal.down-visit-requires
 down-visit-requires t c =
     (omega (arith, c.decreases, c.size_at.ensures.0, c.requires.0.some), (kids_as _ _ _ c.size_at.ensures.0 c.requires.0, c.requires.0.deep, c.requires.1))
 
 pub down-returns : goal.down-returns
 down-returns t c = goes_as (down_as _ _ _ c.size_at.ensures.0 _ _) c.visit.ensures
-
-pub eval-down-s-requires : goal.eval-down-s-requires
-eval-down-s-requires t c = (omega (arith, c.decreases), (c.requires.1, c.requires.2))
-
-pub eval-overflow_add-e : goal.eval-overflow_add-e
-eval-overflow_add-e t c = omega (arith, c.size_at.ensures.0, node_few c.requires.1, c.requires.1.part.few)
-
-pub eval-overflow_add-c : goal.eval-overflow_add-c
-eval-overflow_add-c t c = omega (arith, node_few c.requires.1)
 
 pub eval-returns-then-is_fail : goal.eval-returns-then-is_fail
 eval-returns-then-is_fail t c =
@@ -189,57 +110,20 @@ pub eval-returns : goal.eval-returns
 eval-returns t c =
     goes_as (node_expression _ _ _ c.requires.0) (then c.down-s.ensures (cond_false _ (sym (fail_as _ _ _ c.size_at.ensures.0 _ c.requires.1 c.is_fail.ensures) ∙ c.if-is_fail.false) _ _ (skips (goes_fits c.down-s.ensures))))
 
-pub expr-used-requires : goal.expr-used-requires
-expr-used-requires t c = (c.requires.3, omega (arith, node_few c.requires.2))
-
 pub expr-returns-then-k : goal.expr-returns-then-k
 expr-returns-then-k t c =
     goes_as (node_identifier _ _ _ (sym c.requires.0 ∙ c.if-k.true)) (goes_to c.used.ensures.1 c.used.ensures.0 ((methods _).used _ _ _ _ c.requires.3 (node_few c.requires.2)))
-
-pub expr-lambda-requires : goal.expr-lambda-requires
-expr-lambda-requires t c = (omega (arith, c.decreases), ((sym c.requires.0 ∙ c.if-k-2.true), c.requires.2, c.requires.3))
-
-pub expr-returns-then-k-2 : goal.expr-returns-then-k-2
-expr-returns-then-k-2 t c = c.lambda.ensures
-
-pub expr-comp-requires : goal.expr-comp-requires
-expr-comp-requires t c = (omega (arith, c.decreases), (c.requires.2, c.requires.3))
-
-pub expr-down-requires : goal.expr-down-requires
-expr-down-requires t c = (omega (arith, c.decreases), (c.requires.2, c.requires.3))
 
 pub expr-returns : goal.expr-returns
 expr-returns t c =
     goes_as (node_other _ _ _ c.args.k (sym c.requires.0) c.requires.1 c.if-k.false c.if-k-2.false c.if-k-3.false c.if-k-4.false) c.down.ensures
 
-pub gets-down-s-requires : goal.gets-down-s-requires
-gets-down-s-requires t c = (omega (arith, c.decreases), (c.requires.1, c.requires.2))
-
-pub gets-down-s-requires-2 : goal.gets-down-s-requires-2
-gets-down-s-requires-2 t c = (omega (arith, c.decreases), (c.requires.1, (goes_fits c.down-s.ensures)))
-
-pub gets-assign-requires : goal.gets-assign-requires
-gets-assign-requires t c = (omega (arith, c.decreases), (c.requires.1, (goes_fits c.down-s-2.ensures)))
-
 pub gets-returns : goal.gets-returns
 gets-returns t c =
     goes_as (node_assign _ _ _ c.requires.0) (then c.down-s.ensures (then c.down-s-2.ensures c.assign.ensures))
 
-pub lambda-down-s-requires : goal.lambda-down-s-requires
-lambda-down-s-requires t c = (omega (arith, c.decreases), (c.requires.1, c.requires.2))
-
-pub lambda-body-requires : goal.lambda-body-requires
-lambda-body-requires t c = (omega (arith, c.decreases), (c.requires.1, (goes_fits c.down-s.ensures)))
-
 pub lambda-returns : goal.lambda-returns
 lambda-returns t c = goes_as (node_lambda _ _ _ c.requires.0) (then c.down-s.ensures c.body.ensures)
-
-pub later-overflow_add-e : goal.later-overflow_add-e
-later-overflow_add-e t c = omega (arith, c.size_at.ensures.0, node_few c.requires.2, c.requires.2.part.few)
-
-pub later-overflow_add-i : goal.later-overflow_add-i
-later-overflow_add-i t c =
-    omega (arith, c.size_at-2.ensures.0, below_ends c.requires.2 c.requires.0 c.requires.1, c.requires.2.part.few)
 
 pub later-loop-i-init : goal.later-loop-i-init
 later-loop-i-init t c =
@@ -248,14 +132,6 @@ later-loop-i-init t c =
 pub later-clause-s-requires : goal.later-clause-s-requires
 later-clause-s-requires t c =
     let p = c.loop-i.invariant.2 in let n = ended p c.loop-i-test.true in (omega (arith, c.decreases, c.loop-i.invariant.0, c.loop-i.invariant.1), (node_in_part p c.loop-i-test.true (omega (arith, c.requires.2.deep, c.loop-i.invariant.0)), c.loop-i.invariant.3))
-
-pub later-overflow_add-i-in-loop-i : goal.later-overflow_add-i-in-loop-i
-later-overflow_add-i-in-loop-i t c =
-    omega (arith, c.size_at-i.ensures.0, ended c.loop-i.invariant.2 c.loop-i-test.true, c.loop-i.invariant.2.few)
-
-pub later-loop-i-smaller : goal.later-loop-i-smaller
-later-loop-i-smaller t c =
-    omega (arith, c.size_at-i.ensures.0, ended c.loop-i.invariant.2 c.loop-i-test.true, sized c.loop-i.invariant.2 c.loop-i-test.true, c.loop-i-test.true)
 
 pub later-loop-i-preserved : goal.later-loop-i-preserved
 later-loop-i-preserved t c =
@@ -267,12 +143,6 @@ later-loop-i-preserved t c =
 pub later-returns : goal.later-returns
 later-returns t c =
     c.loop-i.invariant.5 _ _ (clauses_last c.args.self.now.fail c.loop-i.i _ c.loop-i-test.false c.loop-i.invariant.3)
-
-pub loops-overflow_add-n : goal.loops-overflow_add-n
-loops-overflow_add-n t c = omega (arith, c.requires.1, node_few c.requires.2)
-
-pub loops-down-s-requires : goal.loops-down-s-requires
-loops-down-s-requires t c = (omega (arith, c.decreases), (c.requires.2, c.requires.3))
 
 pub loops-turn-s-requires : goal.loops-turn-s-requires
 loops-turn-s-requires t c =
@@ -290,15 +160,6 @@ pub loops-returns : goal.loops-returns
 loops-returns t c =
     goes_as (node_for _ _ _ c.requires.0) (then c.down-s.ensures (loop_twice c.if-n-gt5.false c.turn-s.ensures c.turn-s-2.ensures))
 
-pub modify-down-s-requires : goal.modify-down-s-requires
-modify-down-s-requires t c = (omega (arith, c.decreases), (c.requires.1, c.requires.2))
-
-pub modify-down-s-requires-2 : goal.modify-down-s-requires-2
-modify-down-s-requires-2 t c = (omega (arith, c.decreases), (c.requires.1, (goes_fits c.down-s.ensures)))
-
-pub modify-bind-s-requires : goal.modify-bind-s-requires
-modify-bind-s-requires t c = (node_zero c.requires.1, (goes_fits c.down-s-2.ensures))
-
 pub modify-assign-requires : goal.modify-assign-requires
 modify-assign-requires t c = (omega (arith, c.decreases), (c.requires.1, goes_fits (c.bind-s.ensures c.args.d)))
 
@@ -306,41 +167,17 @@ pub modify-returns : goal.modify-returns
 modify-returns t c =
     goes_as (node_modify _ _ _ c.requires.0) (then c.down-s.ensures (then c.down-s-2.ensures (then (c.bind-s.ensures c.args.d) c.assign.ensures)))
 
-pub one-expr-requires : goal.one-expr-requires
-one-expr-requires t c = (omega (arith, c.decreases), (c.kind_at-k.ensures.0, omega (arith, c.if-k-2.false), c.requires.0, c.requires.2))
-
-pub one-block-requires : goal.one-block-requires
-one-block-requires t c = (omega (arith, c.decreases), (c.kind_at-k.ensures.0, c.if-k.false, omega (arith, c.if-k-2.true), c.requires.1, c.requires.0, c.requires.2))
-
-pub one-stmt-requires : goal.one-stmt-requires
-one-stmt-requires t c = (omega (arith, c.decreases), (c.kind_at-k.ensures.0, c.if-k.true, c.requires.0, c.requires.2))
-
 pub over-down-requires : goal.over-down-requires
 over-down-requires t c = let b = first_below c.requires.1 (sym c.in-Some.is ∙ c.requires.0) in let e = below_ends c.requires.1 b.0 b.1 in (omega (arith, c.decreases, e, b.0), (below_node c.requires.1 b.0 b.1, c.requires.2))
 
 pub over-returns : goal.over-returns
 over-returns t c = goes_as (over_there _ _ c.requires.1 (sym c.in-Some.is ∙ c.requires.0)) c.down.ensures
 
-pub rest-bound-s-requires : goal.rest-bound-s-requires
-rest-bound-s-requires t c = (omega (arith, c.decreases), (c.requires.0, c.requires.1, c.requires.2))
-
-pub rest-down-s-requires : goal.rest-down-s-requires
-rest-down-s-requires t c = (omega (arith, c.decreases), (c.requires.1, (goes_fits c.bound-s.ensures)))
-
-pub rest-down-requires : goal.rest-down-requires
-rest-down-requires t c = (omega (arith, c.decreases), (c.requires.1, (goes_fits c.down-s.ensures)))
-
 pub rest-returns : goal.rest-returns
 rest-returns t c = then c.bound-s.ensures (then c.down-s.ensures c.down.ensures)
 
-pub ret-down-s-requires : goal.ret-down-s-requires
-ret-down-s-requires t c = (omega (arith, c.decreases), (c.requires.1, c.requires.2))
-
 pub ret-returns : goal.ret-returns
 ret-returns t c = return_node _ _ _ c.requires.0 c.down-s.ensures c.stop.ensures
-
-pub side-down-a-requires : goal.side-down-a-requires
-side-down-a-requires t c = (omega (arith, c.decreases), (c.requires.0, c.requires.1))
 
 pub side-join-requires : goal.side-join-requires
 side-join-requires t c =
@@ -350,51 +187,15 @@ pub side-returns : goal.side-returns
 side-returns t c =
     sides_to (methods _) c.requires.1 c.down-a.ensures c.back.ensures (skips (back_fits c.back.ensures c.requires.1 (goes_fits c.down-a.ensures) c.down-a.ensures.does.kept)) c.join.ensures
 
-pub step-one-requires : goal.step-one-requires
-step-one-requires t c = (omega (arith, c.decreases), (c.requires.0, c.requires.1, c.requires.2))
-
 pub step-returns-then-has : goal.step-returns-then-has
 step-returns-then-has t c = pick_true _ (sym c.has.ensures ∙ c.if-has.true) _ _ c.one.ensures
 
 pub step-returns : goal.step-returns
 step-returns t c = pick_false _ (sym c.has.ensures ∙ c.if-has.false) _ _ (skips c.requires.2)
 
-pub stmt-ret-requires : goal.stmt-ret-requires
-stmt-ret-requires t c = (omega (arith, c.decreases), ((sym c.requires.0 ∙ c.if-k.true), c.requires.2, c.requires.3))
-
-pub stmt-returns-then-k : goal.stmt-returns-then-k
-stmt-returns-then-k t c = c.ret.ensures
-
-pub stmt-eval-requires : goal.stmt-eval-requires
-stmt-eval-requires t c = (omega (arith, c.decreases), ((sym c.requires.0 ∙ c.if-k-2.true), c.requires.2, c.requires.3))
-
-pub stmt-returns-then-k-2 : goal.stmt-returns-then-k-2
-stmt-returns-then-k-2 t c = c.eval.ensures
-
-pub stmt-gets-requires : goal.stmt-gets-requires
-stmt-gets-requires t c = (omega (arith, c.decreases), ((sym c.requires.0 ∙ c.if-k-3.true), c.requires.2, c.requires.3))
-
-pub stmt-returns-then-k-3 : goal.stmt-returns-then-k-3
-stmt-returns-then-k-3 t c = c.gets.ensures
-
-pub stmt-modify-requires : goal.stmt-modify-requires
-stmt-modify-requires t c = (omega (arith, c.decreases), ((sym c.requires.0 ∙ c.if-k-4.true), c.requires.2, c.requires.3))
-
-pub stmt-returns-then-k-4 : goal.stmt-returns-then-k-4
-stmt-returns-then-k-4 t c = c.modify.ensures
-
-pub stmt-down-requires : goal.stmt-down-requires
-stmt-down-requires t c = (omega (arith, c.decreases), (c.requires.2, c.requires.3))
-
 pub stmt-returns : goal.stmt-returns
 stmt-returns t c =
     goes_as (node_statement _ _ _ c.args.k (sym c.requires.0) c.requires.1 c.if-k-5.false c.if-k-6.false c.if-k.false c.if-k-2.false c.if-k-3.false c.if-k-4.false) c.down.ensures
-
-pub turn-assign-a-requires : goal.turn-assign-a-requires
-turn-assign-a-requires t c = (omega (arith, c.decreases), (c.requires.0, c.requires.1))
-
-pub turn-down-a-requires : goal.turn-down-a-requires
-turn-down-a-requires t c = (omega (arith, c.decreases), (c.requires.0, (goes_fits c.assign-a.ensures)))
 
 pub turn-join-requires : goal.turn-join-requires
 turn-join-requires t c =
@@ -404,20 +205,9 @@ pub turn-returns : goal.turn-returns
 turn-returns t c =
     turns_to (methods _) c.requires.1 (regroup (then c.assign-a.ensures c.down-a.ensures)) c.back.ensures c.join.ensures c.unlooped.ensures
 
-pub visit-loop-c-init : goal.visit-loop-c-init
-visit-loop-c-init t c = (omega arith, c.requires.0, c.requires.2, refl, λ v y g. g)
-
 pub visit-step-s-requires : goal.visit-step-s-requires
 visit-step-s-requires t c =
     let p = c.loop-c.invariant.1 in let n = ended p c.loop-c-test.true in (omega (arith, c.decreases, c.loop-c.invariant.0), (node_in_part p c.loop-c-test.true (omega (arith, c.requires.1, c.loop-c.invariant.0)), omega (arith, c.requires.1, c.loop-c.invariant.0), c.loop-c.invariant.2))
-
-pub visit-overflow_add-c : goal.visit-overflow_add-c
-visit-overflow_add-c t c =
-    omega (arith, c.size_at-c.ensures.0, ended c.loop-c.invariant.1 c.loop-c-test.true, c.loop-c.invariant.1.few)
-
-pub visit-loop-c-smaller : goal.visit-loop-c-smaller
-visit-loop-c-smaller t c =
-    omega (arith, c.size_at-c.ensures.0, ended c.loop-c.invariant.1 c.loop-c-test.true, sized c.loop-c.invariant.1 c.loop-c-test.true, c.loop-c-test.true)
 
 pub visit-loop-c-preserved : goal.visit-loop-c-preserved
 visit-loop-c-preserved t c =
@@ -429,14 +219,6 @@ visit-loop-c-preserved t c =
 pub visit-returns : goal.visit-returns
 visit-returns t c =
     c.loop-c.invariant.4 _ _ (visit_last c.args.self.now.fail c.args.wanted c.loop-c.c c.args.e c.loop-c-test.false c.loop-c.invariant.2)
-pub one-returns-then-k : goal.one-returns-then-k
-one-returns-then-k t c = c.stmt.ensures
-
-pub one-returns-then-k-2 : goal.one-returns-then-k-2
-one-returns-then-k-2 t c = c.block.ensures
-
-pub one-returns : goal.one-returns
-one-returns t c = c.expr.ensures
 
 pub stmt-returns-then-k-5 : goal.stmt-returns-then-k-5
 stmt-returns-then-k-5 t c =
@@ -452,4 +234,3 @@ over-returns-in_default t c = goes_as (over_none _ _ c.requires.1 (sym c.in_defa
 
 pub bound-returns-in_default : goal.bound-returns-in_default
 bound-returns-in_default t c = goes_as (bound_none _ _ c.requires.1 (sym c.in_default.is ∙ c.requires.0)) (skips c.requires.2)
-

@@ -1,4 +1,4 @@
-use Rattle.std.proofs.Common.{◌≡◌, ◌+◌, ◌-◌, ◌≤◌, ◌<◌}
+use Rattle.std.proofs.Common.{◌≡◌, ◌-◌, ◌≤◌, ◌<◌}
 use Rattle.tree.specs.Search.{lowest}
 use Rattle.tree.specs.code.Stages.{bad9, global_at}
 use Rattle.tree.proofs.nodes.File.check_globals.Given as goal

@@ -1,8 +1,0 @@
--- By the outcome. Assumes nothing.
-use Rattle.lint_c.proofs.as_listed.Goals as goal
-
-pub returns-in-Ok : goal.returns-in-Ok
-returns-in-Ok c = rw c.in-Ok.is
-
-pub returns-in-Err : goal.returns-in-Err
-returns-in-Err c = rw c.in-Err.is
