@@ -35,7 +35,7 @@ use Rattle.sarif.specs.Calls.{checks, answer_by, output_by, Done, sarif_of, sari
 use Rattle.sarif.specs.Telling.{Listed, why_of, Tells}
 use Rattle.sarif.specs.Calls.{Outcome}
 use Rattle.sarif.specs.declared.Answer.{Answer}
-use Rattle.sarif_log.proofs.Valued.{take_front}
+use lib.Seq.{take-append_seam}
 use Rattle.sarif_log.proofs.Listed.{listed_small}
 
 answer_is : (a : Answer) {o : Outcome} {y : List ℕ} → a.outcome ≡ o → a.tally ≡ y → a ≡ record { outcome = o; tally = y }
@@ -179,7 +179,7 @@ module _ (mode : Mode) (t work list : List ℕ) (ample : length list ≡ width *
         let l : length (all_words whole) ≡ width * length whole = length_words whole in
         let k : width * n ≡ length (all_words whole) = omega arith in
         let s : take (width * n) list' ≡ all_words whole
-        = ap₂ (λ (x : ℕ) (y : List ℕ). take x y) k stood ∙ take_front (all_words whole) (drop (width * length whole) list) in
+        = ap₂ (λ (x : ℕ) (y : List ℕ). take x y) k stood ∙ take-append_seam (all_words whole) (drop (width * length whole) list) in
         record {
           small = listed_small whole t work list no_tally a list' work' gives n i;
           counts = demands.lint_counts mode t work list a list' work' gives n i;
