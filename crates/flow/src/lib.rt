@@ -19,7 +19,8 @@ mod reach;
 mod redundant;
 mod returns;
 
-// A file of n nodes, the numbers of its names fail and None, and which of its values are strings.
+// A file of n nodes, the numbers of its names fail and None, and which of its values are strings. A walk is lent what it reads of these.
+// Kept: siblings are t, i and e (from node i up to e), as tree's child_of and fail's is_fail take them: a struct would be taken apart.
 #[derive(Drop)]
 struct Walks<'a> {
     t: &'a [u8],

@@ -102,13 +102,8 @@ fn missing_return(t: &[u8], fail: usize, d: Wanting, sheet: &mut Sheet<'_>)
     requires { Subtree t.now d.at }
     ensures { Added sheet.old sheet.new (listed (not (ends (λ v. eqb v fail) 1 (forest_of t.now (d.at + 1) (d.at + size_at t.now d.at)))) (missing (node_head t.now d.at) (node_spot t.now d.name) (node_head t.now d.why) ∷ []) []) }
 {
-    if !final_return(
-        t,
-        fail,
-        Role::First as usize,
-        d.at + 1,
-        d.at + size_at(t, d.at),
-    ) {
+    let e = d.at + size_at(t, d.at);
+    if !final_return(t, fail, Role::First as usize, d.at + 1, e) {
         sheet.put(
             t,
             Note {

@@ -69,7 +69,8 @@ impl File<'_> {
     // Flow, incompatible and dubious, in a room for all their records.
     fn rest(&self, out: &mut [u32], tally: [usize; CODES]) -> Answer
         requires { width * length (after_names self.now.mode self.now.tree.now) ≤ length out.old }
-        ensures { record { answer = result; room = out.new } ≡ done (after_names self.now.mode self.now.tree.now) self.now.tree.now out.old tally }
+        ensures { record { answer = result; room = out.new }
+            ≡ done (after_names self.now.mode self.now.tree.now) self.now.tree.now out.old tally }
     {
         let a = flow::lint_valid(self.tree, self.facts, out, tally);
         let n = about(a.outcome);

@@ -8,7 +8,7 @@ use mathlib.Core.Path.{◌≡◌, refl, sym, ap, ◌∙◌}
 use mathlib.Core.List.{List, [], ◌∷◌, ◌++◌}
 use native.Mathlib.Omega.{arith}
 use native.Mathlib.Numerals.{add-one}
-use lib.ListN.{length, replicate, get_or, take, drop, set, length-take, length-drop, length-append}
+use lib.ListN.{length, get_or, take, drop, set, length-take, length-drop, length-append}
 use lib.Seq.{take-suc, drop-cons, append_snoc, set_at, set_out, take-append-le, take_at, get_or_at}
 use borrow.Author.Tests.{ne_eqb}
 use Rattle.tree.specs.declared.Mode.{Mode}

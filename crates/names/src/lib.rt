@@ -78,6 +78,7 @@ fn records(t: &[u8], w: &[u16], n: usize, sheet: &mut Sheet<'_>)
 }
 
 // What n warnings answer: their records, where there is room for all.
+// Kept: no answer::answered: how many records there are is known, so none is written only to be counted.
 fn answer_of(t: &[u8], w: &[u16], n: usize, out: &mut [u32], tally: [usize; CODES]) -> Answer
     requires { n ≤ 1024 }
     ensures { Answers (records_of t.now w.now n) out.old tally result out.new }

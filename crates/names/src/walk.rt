@@ -15,6 +15,9 @@ use tree::bytes::{kind_at, role_at, size_at};
 use tree::children::child_of;
 use tree::kinds::{Kind, Role};
 
+// How deep a for may lie in others and still go two rounds.
+const TWICE: usize = 5;
+
 // Which children are visited.
 #[derive(Clone, Copy, Debug, PartialEq, Eq)]
 pub enum Wanted {
@@ -265,7 +268,7 @@ impl Walk<'_> {
         b.join(a)
     }
 
-    // A for: what it goes over, then its rounds, two, or one from the sixth on. Not in cond, whose sides would add to a for's stack.
+    // A for: what it goes over, then its rounds, two, or one past TWICE. Not in cond, whose sides would add to a for's stack.
     #[cycle(walking)]
     #[inline(never)]
     fn loops(&self, c: usize, d: usize, w: &mut [u16], mut s: Scope) -> Scope
@@ -275,7 +278,7 @@ impl Walk<'_> {
         let n = d + 1;
         s = self.down(c, Wanted::Of(Role::Expression), d, w, s);
         s = self.turn(c, n, w, s);
-        if 5 < n {
+        if TWICE < n {
             return s;
         }
         // Kept: s again and then s: tried with the call itself at the end, the frame is 4,440 bytes for 3,336.

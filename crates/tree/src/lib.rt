@@ -1,6 +1,6 @@
 // The tree file of document 01: any bytes are judged, and are a valid tree or refused by number and place.
 // Cost of judge: linear in the bytes, about 460 instructions a node (by callgrind, at 255 statements that are calls). Stack: two
-// arrays of 2 KiB, the parents and the depths.
+// arrays of 2 KiB, the parents and the depths, and what the compiler adds.
 // What a pass asks of the values of a file that was judged is in lookup and keys, with its cost there.
 #![tactic(auto)]
 
@@ -100,6 +100,7 @@ pub enum Likeness {
 
 impl Likeness {
     // 02's number, 1 or 2; 0 where there is none.
+    // Kept: that 0: its contract's reason has it.
     pub fn reason(self) -> u32
         ensures { result ≡ reason self }
     {

@@ -86,7 +86,7 @@ pub(crate) fn offset_of(t: &[u8], n: usize, v: usize) -> usize
     ensures { (result ≡ offset t.now n v) × (result ≤ 11 + 16 * n + 65538 * v) }
 {
     let mut at = 11 + 16 * n;
-    for i in 0..v {
+    for _i in 0..v {
         at += 3 + u16_at(t, at + 1);
     }
     at

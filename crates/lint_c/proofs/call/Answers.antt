@@ -2,7 +2,7 @@
 use Prim.Native.Nat.{ℕ, ◌+◌}
 use native.Mathlib.Omega.{arith}
 use mathlib.Core.List.{List, ◌∷◌}
-use mathlib.Core.Path.{◌≡◌, refl, ap, ◌∙◌}
+use mathlib.Core.Path.{ap, ◌∙◌}
 use lib.ListN.{length-take}
 use Rattle.rules.specs.Joined.{codes}
 use Rattle.lint_c.specs.Face.{laid}
@@ -19,7 +19,8 @@ returns c =
     let l = c.lint-a in
     let w = c.words_of-words in
     let e = report_words c.place_of.result 0 l.result.tally w.result w.ensures.1 w.ensures.0 in
-    told a.mode a.t.now a.work.now a.out.now a.report.now l.result l.new.work l.new.out c.lay.new.room c.number_of.result l.ensures c.number_of.ensures
+    told a.mode a.t.now a.work.now a.out.now a.report.now l.result l.new.work l.new.out c.lay.new.room
+    c.number_of.result l.ensures c.number_of.ensures
     (laid_so _ a.report.now c.lay.new.room c.lay.ensures
     ∙ ap (λ (r : List ℕ). laid r a.report.now) e
     ∙ ap (λ (x : ℕ). laid (x ∷ l.result.tally) a.report.now) c.place_of.ensures)

@@ -1,9 +1,8 @@
 -- The code's own name, laid over the room. Assumes nothing.
 use Prim.Native.Nat.{ℕ}
-use mathlib.Core.Path.{◌≡◌, ap, ◌∙◌}
+use mathlib.Core.Path.{ap, ◌∙◌}
 use mathlib.Core.List.{List}
 use lib.ListN.{length}
-use Rattle.rules.specs.Codes.{short_name}
 use Rattle.lint_c.specs.Face.{laid}
 use Rattle.lint_c.proofs.Laws.{laid_so}
 use Rattle.lint_c.proofs.yudronkha_short_name.Goals as goal

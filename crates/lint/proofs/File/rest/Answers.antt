@@ -25,14 +25,16 @@ slice_bounds-lint_valid-count c =
     let s = c.args.self.now in
     let n = c.about-n.ensures ∙ about_flow s.mode s.tree.now s.valid _ _ c.lint_valid-a.ensures in
     end_one (flow_list s.tree.now) (incompatible_list s.tree.now) (dubious_list s.mode s.tree.now) c.args.out.now c.args.tally
-    (record { sound = record { valid = s.valid }; enough = c.requires }) c.lint_valid-a.new.out c.about-n.result c.lint_valid-a.result c.lint_valid-a.ensures n
+    (record { sound = record { valid = s.valid }; enough = c.requires })
+    c.lint_valid-a.new.out c.about-n.result c.lint_valid-a.result c.lint_valid-a.ensures n
 
 pub slice_bounds-lint_valid-start : goal.slice_bounds-lint_valid-start
 slice_bounds-lint_valid-start c =
     let s = c.args.self.now in
     let n = c.about-n.ensures ∙ about_flow s.mode s.tree.now s.valid _ _ c.lint_valid-a.ensures in
     end_one (flow_list s.tree.now) (incompatible_list s.tree.now) (dubious_list s.mode s.tree.now) c.args.out.now c.args.tally
-    (record { sound = record { valid = s.valid }; enough = c.requires }) c.lint_valid-a.new.out c.about-n.result c.lint_valid-a.result c.lint_valid-a.ensures n
+    (record { sound = record { valid = s.valid }; enough = c.requires })
+    c.lint_valid-a.new.out c.about-n.result c.lint_valid-a.result c.lint_valid-a.ensures n
 
 pub overflow_add-m : goal.overflow_add-m
 overflow_add-m c =
@@ -60,7 +62,8 @@ slice_bounds-lint_valid-count-2 c =
     let s = c.args.self.now in
     let n = c.about-n.ensures ∙ about_flow s.mode s.tree.now s.valid _ _ c.lint_valid-a.ensures in
     end_two (flow_list s.tree.now) (incompatible_list s.tree.now) (dubious_list s.mode s.tree.now) c.args.out.now c.args.tally
-    (record { sound = record { valid = s.valid }; enough = c.requires }) c.lint_valid-a.new.out c.about-n.result c.lint_valid-a.result c.lint_valid-a.ensures n
+    (record { sound = record { valid = s.valid }; enough = c.requires })
+    c.lint_valid-a.new.out c.about-n.result c.lint_valid-a.result c.lint_valid-a.ensures n
     c.lint_valid-b.result c.lint_valid-b.new.out c.lint_valid-b.ensures _ (ap (λ (k : ℕ). c.about-n.result + k) c.about.ensures)
 
 pub slice_bounds-lint_valid-start-2 : goal.slice_bounds-lint_valid-start-2
@@ -68,7 +71,8 @@ slice_bounds-lint_valid-start-2 c =
     let s = c.args.self.now in
     let n = c.about-n.ensures ∙ about_flow s.mode s.tree.now s.valid _ _ c.lint_valid-a.ensures in
     end_two (flow_list s.tree.now) (incompatible_list s.tree.now) (dubious_list s.mode s.tree.now) c.args.out.now c.args.tally
-    (record { sound = record { valid = s.valid }; enough = c.requires }) c.lint_valid-a.new.out c.about-n.result c.lint_valid-a.result c.lint_valid-a.ensures n
+    (record { sound = record { valid = s.valid }; enough = c.requires })
+    c.lint_valid-a.new.out c.about-n.result c.lint_valid-a.result c.lint_valid-a.ensures n
     c.lint_valid-b.result c.lint_valid-b.new.out c.lint_valid-b.ensures _ (ap (λ (k : ℕ). c.about-n.result + k) c.about.ensures)
 
 pub after-requires : goal.after-requires
@@ -84,6 +88,7 @@ returns c =
     let s = c.args.self.now in
     let n = c.about-n.ensures ∙ about_flow s.mode s.tree.now s.valid _ _ c.lint_valid-a.ensures in
     three_done (flow_list s.tree.now) (incompatible_list s.tree.now) (dubious_list s.mode s.tree.now) c.args.out.now c.args.tally
-    (record { sound = record { valid = s.valid }; enough = c.requires }) c.lint_valid-a.new.out c.about-n.result c.lint_valid-a.result c.lint_valid-a.ensures n
+    (record { sound = record { valid = s.valid }; enough = c.requires })
+    c.lint_valid-a.new.out c.about-n.result c.lint_valid-a.result c.lint_valid-a.ensures n
     c.lint_valid-b.result c.lint_valid-b.new.out c.lint_valid-b.ensures _ (ap (λ (k : ℕ). c.about-n.result + k) c.about.ensures)
     c.lint_valid-c.result c.after.result c.lint_valid-c.new.out c.lint_valid-c.ensures c.after.ensures.0 c.after.ensures.1

@@ -8,4 +8,4 @@ loop-i-init c = (omega arith, sym (offset_start c.args.t.now c.args.n))
 
 pub loop-i-preserved : goal.loop-i-preserved
 loop-i-preserved c =
-    (omega (arith, c.u16_at.ensures.1), offset_step c.args.t.now c.args.n c.loop-i.i c.loop-i.at c.u16_at.result c.loop-i.invariant.1 c.u16_at.ensures.0)
+    (omega (arith, c.u16_at.ensures.1), offset_step c.args.t.now c.args.n c.loop-i._i c.loop-i.at c.u16_at.result c.loop-i.invariant.1 c.u16_at.ensures.0)

@@ -148,9 +148,9 @@ pub loops-turn-s-requires : goal.loops-turn-s-requires
 loops-turn-s-requires t c =
     (omega (arith, c.decreases), ((node_more c.requires.2 (c.args.d + 1) (omega (arith, c.requires.1))), (goes_fits c.down-s.ensures)))
 
-pub loops-returns-then-n-gt5 : goal.loops-returns-then-n-gt5
-loops-returns-then-n-gt5 t c =
-    goes_as (node_for _ _ _ c.requires.0) (then c.down-s.ensures (loop_once c.if-n-gt5.true c.turn-s.ensures))
+pub loops-returns-then-n-gt-TWICE : goal.loops-returns-then-n-gt-TWICE
+loops-returns-then-n-gt-TWICE t c =
+    goes_as (node_for _ _ _ c.requires.0) (then c.down-s.ensures (loop_once c.if-n-gt-TWICE.true c.turn-s.ensures))
 
 pub loops-turn-s-requires-2 : goal.loops-turn-s-requires-2
 loops-turn-s-requires-2 t c =
@@ -158,7 +158,7 @@ loops-turn-s-requires-2 t c =
 
 pub loops-returns : goal.loops-returns
 loops-returns t c =
-    goes_as (node_for _ _ _ c.requires.0) (then c.down-s.ensures (loop_twice c.if-n-gt5.false c.turn-s.ensures c.turn-s-2.ensures))
+    goes_as (node_for _ _ _ c.requires.0) (then c.down-s.ensures (loop_twice c.if-n-gt-TWICE.false c.turn-s.ensures c.turn-s-2.ensures))
 
 pub modify-assign-requires : goal.modify-assign-requires
 modify-assign-requires t c = (omega (arith, c.decreases), (c.requires.1, goes_fits (c.bind-s.ensures c.args.d)))
