@@ -3,7 +3,7 @@
 
 ghost use Rattle.std.specs.Prelude.{◌≡◌};
 ghost use Rattle.rules.specs.Codes.{disabled, short_name};
-ghost use Rattle.rules.specs.Decoded.{number_of};
+ghost use Rattle.rules.specs.code.Decoded.{number_of};
 ghost use Rattle.codes.specs.Named.{severity_of};
 
 use rules::Code;

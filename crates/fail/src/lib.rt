@@ -17,7 +17,11 @@ fn next(t: &[u8], j: usize, e: usize) -> usize
     ensures { (j < result) × (result ≤ e) × (Part t.now j e → result ≡ j + size_at t.now j) }
 {
     let size = size_at(t, j);
-    if size == 0 || e - j <= size { e } else { j + size }
+    if size == 0 || e - j <= size {
+        e
+    } else {
+        j + size
+    }
 }
 
 // Node j is a function that is the identifier fail.

@@ -8,7 +8,7 @@ use mathlib.Core.Bool.{Bool, true, false, cond, ◌&&◌, ◌||◌}
 use lib.Dec.{eqb}
 use borrow.Author.Tests.{eq-eqb, eqb-true}
 use Rattle.tree.specs.Bytes.{kind_at, size_at}
-use Rattle.tree.specs.Forest.{Head, Forest, none, node, node_head, forest_of}
+use Rattle.tree.specs.Forest.{Head, Forest, node_head, forest_of}
 use Rattle.tree.specs.code.Part.{Part, Subtree}
 use Rattle.tree.specs.code.Find.{first_child}
 use Rattle.tree.proofs.Laws.{ended, forest_none, forest_node}

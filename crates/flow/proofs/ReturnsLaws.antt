@@ -1,5 +1,5 @@
 -- What each step and return of the functions of returns shows. Assumes nothing.
-use Rattle.std.specs.Prelude.{Option as Maybe, Some, None, is_some}
+use Rattle.std.specs.Prelude.{Option as Maybe, Some, None, is_some, MatchOption}
 use Prim.Native.Nat.{ℕ, ◌+◌, ◌≤◌, ◌<◌}
 use native.Mathlib.Omega.{arith}
 use native.Mathlib.Decide.{dec_lt, ℕ_discrete}
@@ -221,13 +221,6 @@ module _ {t : List ℕ} {i : ℕ} (d : DefAt t i) where
   pub def_kids : Part t (i + 1) End
   def_kids = kids d.at.tidy.part (omega (arith, d.at.some))
 
-  -- a def has a name and a body
-  pub no_name : None ≡ first_child t 6 (i + 1) End → ⊥
-  no_name q = omega (arith, (def_shaped d).name, child_none t 6 (i + 1) End q)
-
-  pub no_body : None ≡ first_child t 1 (i + 1) End → ⊥
-  no_body q = omega (arith, (def_shaped d).body, child_none t 1 (i + 1) End q)
-
   module _ {b : ℕ} (q : Some b ≡ first_child t 1 (i + 1) End) where
     -- the body is a part of the def
     pub body_tidy : Tidy t b (b + size_at t b)
@@ -242,15 +235,12 @@ module _ {t : List ℕ} {i : ℕ} (d : DefAt t i) where
         let z = child_some t 1 (i + 1) End b q in
         body_one def_kids (def_shaped d).one b z.0 z.1
 
-  module _ (is_none : ℕ → Bool) where
-    pub reason_type : (j : ℕ) → head_if t (Some j) ≡ type_reason is_none (forest_of t (i + 1) End) → head_if t (Some j) ≡ reason is_none (forest_of t (i + 1) End)
-    unfolding head_if
-    reason_type j typed = rw (sym typed)
-
-    pub reason_return : head_if t None ≡ type_reason is_none (forest_of t (i + 1) End) → {b : ℕ} → Some b ≡ first_child t 1 (i + 1) End
-        → (x : Maybe ℕ) → head_if t x ≡ first_valued (returns everything (forest_of t b (b + size_at t b))) → head_if t x ≡ reason is_none (forest_of t (i + 1) End)
-    unfolding head_if
-    reason_return typed q x u = rw (sym typed) (u ∙ ap first_valued (sym (body_returns q)))
+-- a type, or else the first such return
+pub reason_either : (is_none : ℕ → Bool) (t : List ℕ) (k : Forest) (typed why : Maybe ℕ) {P : Type 0} → head_if t typed ≡ type_reason is_none k
+    → MatchOption typed P (λ j. why ≡ Some j) → (P → head_if t why ≡ first_valued (returns the_body k)) → head_if t why ≡ reason is_none k
+unfolding head_if
+reason_either is_none t k None why e m f = rw (sym e) (f m)
+reason_either is_none t k (Some j) why e m f = rw (sym e, m)
 
 -- ---- 8 and 7
 

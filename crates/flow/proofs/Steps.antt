@@ -11,7 +11,7 @@ use Rattle.std.proofs.lemmas.Bool.{false≢true, ne_eqb, lt-ltb, le-ltb, leb-tru
 use Rattle.tree.specs.Bytes.{kind_at, size_at, value_at, pick}
 use Rattle.tree.specs.Forest.{Head, Forest, none, node, node_spot, node_head, forest_of}
 use Rattle.tree.specs.code.Part.{Part, Subtree}
-use Rattle.tree.specs.code.Find.{child_of, first_child}
+use Rattle.tree.specs.code.Find.{first_child}
 use Rattle.tree.proofs.FirstChild.{child_some}
 use Rattle.tree.proofs.Laws.{sized, ended, first, kids, rest, forest_none, forest_node}
 use Rattle.rules.specs.Record.{Rec, plainly, listed}
@@ -81,15 +81,6 @@ module _ (strings : List Bool) (t : List ℕ) (j : ℕ) where
       go (no a) (yes e) b q = rw e
       go (no a) (no c) true q = rw (them (kind_at t j) q, q, ne_eqb (kind_at t j) 22 a, ne_eqb (kind_at t j) 24 c)
       go (no a) (no c) false q = rw (by_itself (kind_at t j) a c q, q, ne_eqb (kind_at t j) 22 a, ne_eqb (kind_at t j) 24 c)
-
-pub inside_them : (t : List ℕ) (j : ℕ) → of_children (kind_at t j) ≡ true → j + 1 ≡ inside t j
-inside_them t j h = rw (them (kind_at t j) h)
-
-pub inside_other : (t : List ℕ) (j : ℕ) → of_children (kind_at t j) ≡ false → j + size_at t j ≡ inside t j
-inside_other t j h =
-    look_all (λ m x. of_children m ≡ false → j + size_at t j ≡ onto x (j + 1) (j + size_at t j)) (kind_at t j) effects some_effect
-    (λ c. refl, (λ c. refl, (λ c. false_true (sym c), (λ c. false_true (sym c), (λ c. false_true (sym c), (λ c. false_true (sym c), tt))))))
-    (λ c. refl) h
 
 pub inside_after : (t : List ℕ) (j : ℕ) → 1 ≤ size_at t j → j < inside t j
 inside_after t j h = go (look (kind_at t j) effects some_effect)

@@ -19,7 +19,7 @@ use tree::kinds::{Kind, Role};
 fn by_children(k: usize) -> bool
     ensures { result ≡ of_children k }
 {
-    Kind::Tuple as usize <= k && k <= Kind::Conditional as usize
+    (Kind::Tuple as usize..=Kind::Conditional as usize).contains(&k)
 }
 
 // Ellipsis and lambdas have none.
@@ -72,14 +72,11 @@ fn idle(t: &[u8], strings: &[bool; 512], i: usize, sheet: &mut Sheet<'_>)
     requires { Subtree t.now i × Stated t.now i }
     ensures { Added sheet.old sheet.new (idle_at strings.now (node_head t.now i) (forest_of t.now (i + 1) (i + size_at t.now i))) }
 {
-    if kind_at(t, i) != Kind::Expression as usize {
-        return;
-    }
     let e = i + size_at(t, i);
-    if has_effect(t, strings, i + 1, e) {
-        return;
-    }
-    if let Some(j) = child_of(t, Role::Expression as usize, i + 1, e) {
+    if kind_at(t, i) == Kind::Expression as usize
+        && !has_effect(t, strings, i + 1, e)
+        && let Some(j) = child_of(t, Role::Expression as usize, i + 1, e)
+    {
         sheet.put_plainly(t, Code::NoEffect as u32, j);
     }
 }

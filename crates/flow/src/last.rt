@@ -1,5 +1,4 @@
 // The last of some siblings.
-ghost use Rattle.std.specs.Prelude.{◌≡◌};
 ghost use Rattle.tree.specs.code.Part.{Part};
 ghost use Rattle.flow.specs.Returns.{Last};
 

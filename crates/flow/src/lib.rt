@@ -20,7 +20,6 @@ mod redundant;
 mod returns;
 
 // A file of n nodes, the numbers of its names fail and None, and which of its values are strings.
-// Kept: a name that the file has not is 65536, no value's number, so that it compares like any other (number_of is tree's, and gives it).
 #[derive(Drop)]
 struct Walks<'a> {
     t: &'a [u8],
@@ -38,6 +37,7 @@ impl Pass for Walks<'_> {
     ghost use Rattle.flow.specs.Walks.{is_text};
 
     ghost ready = { λ p. Checked p.t.now p.n };
+
     ghost records = { λ p. flow (λ v. eqb v p.fail) (λ v. eqb v p.none) (is_text p.strings) (forest_of p.t.now 0 p.n) };
 
     fn lint(&self, sheet: &mut Sheet<'_>) {
@@ -55,6 +55,7 @@ pub fn lint_valid(t: &[u8], f: Facts, out: &mut [u32], tally: [usize; CODES]) ->
     requires { judged t.now ≡ Ok f }
     ensures { record { answer = result; room = out.new } ≡ flow_call t.now out.old tally }
 {
+    // Kept: a name that the file has not is 65536 to number_of, no value's number, so that it compares like any other.
     let walks = Walks {
         t,
         n: f.nodes,

@@ -15,7 +15,7 @@ use tree::kinds::Kind;
 pub(crate) fn is_string(strings: &[bool; 512], v: usize) -> bool
     ensures { result ≡ is_text strings.now v }
 {
-    v < 512 && strings[v]
+    v < strings.len() && strings[v]
 }
 
 // The first of the siblings from i up to e is a string literal.

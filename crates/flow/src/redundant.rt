@@ -83,7 +83,14 @@ fn body(t: &[u8], i: usize, sheet: &mut Sheet<'_>)
     let k = kind_at(t, i);
     let loops = k == Kind::For as usize;
     if loops || k == Kind::Def as usize {
-        last(t, loops, Role::First as usize, i + 1, i + size_at(t, i), sheet);
+        last(
+            t,
+            loops,
+            Role::First as usize,
+            i + 1,
+            i + size_at(t, i),
+            sheet,
+        );
     }
 }
 

@@ -6,7 +6,7 @@ ghost use Rattle.tree.specs.Forest.{node_spot, node_head, forest_of};
 ghost use Rattle.tree.specs.code.Part.{Part, Subtree};
 ghost use Rattle.rules.specs.Record.{listed};
 ghost use Rattle.rules.specs.Visit.{has};
-ghost use Rattle.rules.specs.Flow.{everything, returns, type_reason, reason, first_valued, ends, missing, bare_recs, check_for, check, returns_walk};
+ghost use Rattle.rules.specs.Flow.{everything, the_body, returns, type_reason, reason, first_valued, ends, missing, bare_recs, check_for, check, returns_walk};
 ghost use Rattle.answer.specs.Page.{Added};
 ghost use Rattle.flow.specs.Returns.{Tidy, TidyAt, DefAt, head_if, own};
 
@@ -80,17 +80,21 @@ fn require_return_expression(t: &[u8], none: usize, i: usize, e: usize) -> Optio
     Some(j)
 }
 
+// The first return with an expression in the body of the def at node i.
+fn valued_in_body(t: &[u8], i: usize) -> Option<usize>
+    requires { DefAt t.now i }
+    ensures { head_if t.now result ≡ first_valued (returns the_body (forest_of t.now (i + 1) (i + size_at t.now i))) }
+{
+    let b = child_of(t, Role::First as usize, i + 1, i + size_at(t, i))?;
+    first_valued(t, b, b + size_at(t, b))
+}
+
 // Why the def at node i wants a value.
 fn reason(t: &[u8], none: usize, i: usize) -> Option<usize>
     requires { DefAt t.now i }
     ensures { head_if t.now result ≡ reason (λ v. eqb v none) (forest_of t.now (i + 1) (i + size_at t.now i)) }
 {
-    let e = i + size_at(t, i);
-    if let Some(j) = require_return_expression(t, none, i + 1, e) {
-        return Some(j);
-    }
-    let b = child_of(t, Role::First as usize, i + 1, e)?;
-    first_valued(t, b, b + size_at(t, b))
+    require_return_expression(t, none, i + 1, i + size_at(t, i)).or_else(|| valued_in_body(t, i))
 }
 
 // 8 at the def.
@@ -98,7 +102,13 @@ fn missing_return(t: &[u8], fail: usize, d: Wanting, sheet: &mut Sheet<'_>)
     requires { Subtree t.now d.at }
     ensures { Added sheet.old sheet.new (listed (not (ends (λ v. eqb v fail) 1 (forest_of t.now (d.at + 1) (d.at + size_at t.now d.at)))) (missing (node_head t.now d.at) (node_spot t.now d.name) (node_head t.now d.why) ∷ []) []) }
 {
-    if !final_return(t, fail, Role::First as usize, d.at + 1, d.at + size_at(t, d.at)) {
+    if !final_return(
+        t,
+        fail,
+        Role::First as usize,
+        d.at + 1,
+        d.at + size_at(t, d.at),
+    ) {
         sheet.put(
             t,
             Note {
@@ -165,10 +175,9 @@ fn check_stmt(t: &[u8], fail: usize, none: usize, i: usize, sheet: &mut Sheet<'_
     requires { TidyAt t.now i }
     ensures { Added sheet.old sheet.new (check (λ v. eqb v fail) (λ v. eqb v none) (node_head t.now i).kind (node_head t.now i) (forest_of t.now (i + 1) (i + size_at t.now i))) }
 {
-    if kind_at(t, i) != Kind::Def as usize {
-        return;
-    }
-    if let Some(why) = reason(t, none, i) {
+    if kind_at(t, i) == Kind::Def as usize
+        && let Some(why) = reason(t, none, i)
+    {
         check_for(t, fail, i, why, sheet);
     }
 }

@@ -1,17 +1,15 @@
 -- What each step of the code leaves in the lent words. Assumes nothing.
 use Prim.Native.Nat.{ℕ, zero, suc, ◌+◌, ◌-◌, ◌≤◌, ◌<◌}
 use native.Mathlib.Omega.{arith}
-use native.Mathlib.Numerals.{add-one}
 use mathlib.Core.Path.{◌≡◌, refl, sym, ap, ◌∙◌}
 use mathlib.Core.Bool.{Bool, true, false}
 use mathlib.Core.List.{List, [], ◌∷◌, ◌++◌}
 use lib.ListN.{get_or, set}
 use lib.Dec.{eqb}
-use Rattle.std.proofs.Common.{Option, None, Some, SomeIff}
-use borrow.Author.Tests.{eq-eqb, ne_eqb}
-use Rattle.tree.specs.Forest.{Head, node_spot}
-use Rattle.rules.specs.Names.{same}
-use Rattle.meeting.specs.Words.{bucket_of, emptied, linked_at, link_words, linked, touched, along, meet_words, meets, word_of}
+use Rattle.std.proofs.Common.{Option, None, Some}
+use borrow.Author.Tests.{ne_eqb}
+use Rattle.tree.specs.Forest.{Head}
+use Rattle.meeting.specs.Words.{bucket_of, emptied, touched, along, meet_words, meets, word_of}
 
 pub empty_next : (w₀ w : List ℕ) (k : ℕ) {v : List ℕ} → 2048 ≤ k → w ≡ emptied w₀ (k - 2048) → v ≡ set w k 0 → v ≡ emptied w₀ (k + 1 - 2048)
 unfolding emptied
@@ -19,40 +17,6 @@ empty_next w₀ w k h e f =
     let q : k + 1 - 2048 ≡ suc (k - 2048) = omega arith in
     let s : 2048 + (k - 2048) ≡ k = omega arith in
     f ∙ rw (q, s, e)
-
-pub link_laid : (t w : List ℕ) (k : ℕ) {y b x : ℕ} {v u z : List ℕ} → y ≡ get_or w k 0 → b ≡ bucket_of t y → x ≡ get_or w (2048 + b) 0
-    → v ≡ set w (3072 + k) x → u ≡ set v (2048 + b) (k + 1) → z ≡ set u (4096 + k) 0 → z ≡ link_words t w k
-unfolding link_words linked_at
-link_laid t w k e f g h i j = j ∙ rw (i, h, g, f, e)
-
-pub link_next : (t w₀ : List ℕ) (k : ℕ) {w v : List ℕ} → w ≡ linked t w₀ k → v ≡ link_words t w k → v ≡ linked t w₀ (k + 1)
-unfolding linked
-link_next t w₀ k e f = rw (add-one k) (f ∙ ap (λ (x : List ℕ). link_words t x k) e)
-
-module _ (t w : List ℕ) (k i : ℕ) where
-  pub touch_met : {x : ℕ} → x ≡ get_or w (4096 + k) 0 → (x ≡ 0 → ⊥) → w ≡ touched t w k i
-  unfolding touched
-  touch_met e n = rw (ne_eqb (get_or w (4096 + k) 0) 0 (λ z. n (e ∙ z)))
-
-  pub touch_takes : {x y : ℕ} {b : Bool} {v u : List ℕ} → x ≡ get_or w (4096 + k) 0 → x ≡ 0 → y ≡ get_or w k 0 → b ≡ same (node_spot t y) (node_spot t i)
-      → b ≡ true → v ≡ set w k i → u ≡ set v (4096 + k) 1 → u ≡ touched t w k i
-  unfolding touched
-  touch_takes e z f g h p q =
-      let s : same (node_spot t (get_or w k 0)) (node_spot t i) ≡ true = rw f at (sym g ∙ h) in
-      q ∙ rw (p, eq-eqb (get_or w (4096 + k) 0) 0 (sym e ∙ z), s)
-
-  pub touch_unlike : {x y : ℕ} {b : Bool} → x ≡ get_or w (4096 + k) 0 → x ≡ 0 → y ≡ get_or w k 0 → b ≡ same (node_spot t y) (node_spot t i)
-      → b ≡ false → w ≡ touched t w k i
-  unfolding touched
-  touch_unlike e z f g h =
-      let s : same (node_spot t (get_or w k 0)) (node_spot t i) ≡ false = rw f at (sym g ∙ h) in
-      rw (eq-eqb (get_or w (4096 + k) 0) 0 (sym e ∙ z), s)
-
--- the word that a place came from
-pub told : (o : Option ℕ) (x : ℕ) → SomeIff o (1 ≤ x) (x - 1) → word_of o ≡ x
-unfolding word_of
-told None x n = omega arith
-told (Some k) x e = omega arith
 
 module _ (t : List ℕ) (i : ℕ) where
   pub along_none : (left : ℕ) (w : List ℕ) (q : ℕ) → left ≤ 0 → along left t w q i ≡ w

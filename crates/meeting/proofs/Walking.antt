@@ -1,17 +1,17 @@
 -- What each step of the walk shows. Assumes nothing.
-use Prim.Native.Nat.{ℕ, suc, ◌+◌, ◌≤◌, ◌<◌}
+use Prim.Native.Nat.{ℕ, ◌+◌, ◌≤◌, ◌<◌}
 use native.Mathlib.Omega.{arith}
 use native.Mathlib.Numerals.{add-one}
 use mathlib.Core.Path.{◌≡◌, refl, sym, ap, ◌∙◌}
 use mathlib.Core.Bool.{Bool, true, false}
-use mathlib.Core.List.{List, [], ◌∷◌, ◌++◌, map}
+use mathlib.Core.List.{List, [], ◌++◌, map}
 use lib.Dec.{eqb}
 use lib.ListN.{length, get_or, drop}
 use lib.Seq.{drop-cons}
 use Rattle.std.proofs.lemmas.List.{drop_all}
 use borrow.Author.Tests.{lt-ltb}
 use Rattle.tree.specs.Bytes.{kind_at, role_at, size_at}
-use Rattle.tree.specs.Forest.{Head, Forest, node_head, forest_of}
+use Rattle.tree.specs.Forest.{Head, node_head, forest_of}
 use Rattle.tree.specs.code.Part.{Part, Subtree}
 use Rattle.tree.proofs.Laws.{sized, first, later, forest_none, forest_node}
 use Rattle.meeting.specs.Asked.{Ask, asked_as, wanted, after, row, below, run, step, at}

@@ -3,7 +3,8 @@
 
 ghost use Rattle.std.specs.Prelude.{◌≡◌, ◌<◌, ◌≤◌, get_or, IfSome};
 ghost use Rattle.tree.specs.code.Part.{Part};
-ghost use Rattle.meeting.specs.Words.{bucket_of, emptied as emptiedWords, link_words, linked as linkedWords, touched, meet_words, first_words, word_of};
+ghost use Rattle.meeting.specs.Words.{bucket_of, emptied as emptiedWords, link_words, linked as linkedWords};
+ghost use Rattle.meeting.specs.Words.{touched, word_of, meet_words, first_words};
 
 use scope::table::{same_spot, store, word_at};
 use tree::bytes::{begin_at, end_at, value_at};
@@ -16,6 +17,7 @@ mod walk;
 const BUCKETS: usize = 1024;
 
 // By bucket: 1 + its last place. By place: 1 + the place before it in its bucket; whether its node is met.
+// Kept: parts of one list, of as many words as there are, as `first_words` in `first_met`'s contract has them.
 const LAST: usize = 2048;
 
 const BEFORE: usize = LAST + BUCKETS;
@@ -23,6 +25,7 @@ const BEFORE: usize = LAST + BUCKETS;
 const MET: usize = 4096;
 
 // Nodes that share span and name are in one bucket.
+#[tactic(auto, unfolding(crate::specs::Words::bucket_of))]
 fn bucket(t: &[u8], i: usize) -> usize
     ensures { (result ≡ bucket_of t.now i) × (result < 1024) }
 {
@@ -38,6 +41,7 @@ fn emptied(w: &mut [u16])
 }
 
 // Place k joins the bucket of its node, which is not met yet.
+#[tactic(auto, unfolding(crate::specs::Words::link_words, crate::specs::Words::linked_at))]
 fn link(t: &[u8], w: &mut [u16], k: usize)
     requires { k < 1024 }
     ensures { w.new ≡ link_words t.now w.old k }
@@ -48,6 +52,7 @@ fn link(t: &[u8], w: &mut [u16], k: usize)
     store(w, MET + k, 0);
 }
 
+#[tactic(auto, unfolding(crate::specs::Words::linked))]
 fn linked(t: &[u8], w: &mut [u16], n: usize)
     requires { n ≤ 1024 }
     ensures { w.new ≡ linkedWords t.now w.old n }
@@ -58,6 +63,7 @@ fn linked(t: &[u8], w: &mut [u16], n: usize)
 }
 
 // Node i is met: it takes place k, if it has that span and name and is the first.
+#[tactic(auto, unfolding(crate::specs::Words::touched))]
 fn touch(t: &[u8], w: &mut [u16], k: usize, i: usize)
     requires { (k < 65536) × (i < 65536) }
     ensures { w.new ≡ touched t.now w.old k i }
@@ -69,6 +75,7 @@ fn touch(t: &[u8], w: &mut [u16], k: usize, i: usize)
 }
 
 // The place that word k tells, if any.
+#[tactic(auto, unfolding(crate::specs::Words::word_of))]
 fn place_at(w: &[u16], k: usize) -> Option<usize>
     ensures tells { word_of result ≡ get_or w.now k 0 }
     ensures low { IfSome result (λ p. p < 65535) }

@@ -3,7 +3,8 @@ ghost use Rattle.std.specs.Prelude.{◌≡◌, eqb, map};
 ghost use Rattle.tree.specs.Forest.{forest_of};
 ghost use Rattle.tree.specs.code.Part.{Part, Subtree};
 ghost use Rattle.rules.specs.Order.{every};
-ghost use Rattle.meeting.specs.Asked.{visits, no_ask, asked_as, wanted, after as after_of, row, at, below as below_of, run, step as step_of};
+ghost use Rattle.meeting.specs.Asked.{visits, no_ask, asked_as, wanted, after as after_of, row};
+ghost use Rattle.meeting.specs.Asked.{at, below as below_of, run, step as step_of};
 ghost use Rattle.meeting.specs.Meant.{meant, number};
 ghost use Rattle.meeting.specs.Walked.{Walked};
 
@@ -29,6 +30,7 @@ pub(crate) enum Ask {
 }
 
 // What a visit of a node of this kind asks, in order.
+#[tactic(auto, unfolding(crate::specs::Asked::row, crate::specs::Asked::form_row))]
 fn visit_plan(kind: usize) -> &'static [Ask]
     ensures { map number result.now ≡ row (visits every) kind }
 {
@@ -64,6 +66,7 @@ fn visit_plan(kind: usize) -> &'static [Ask]
 }
 
 // What asking a node of this kind for the names that it binds asks, in order.
+#[tactic(auto, unfolding(crate::specs::Asked::row, crate::specs::Asked::bind_row))]
 fn bind_plan(kind: usize) -> &'static [Ask]
     ensures { map number result.now ≡ row no_ask kind }
 {
@@ -76,6 +79,7 @@ fn bind_plan(kind: usize) -> &'static [Ask]
 
 impl Ask {
     // A node of this role is one of those asked for.
+    #[tactic(auto, unfolding(crate::specs::Asked::wanted))]
     fn wants(self, role: usize) -> bool
         ensures { result ≡ wanted (meant self) role }
     {
@@ -88,6 +92,7 @@ impl Ask {
     }
 
     // What is asked of the siblings after a node of this role.
+    #[tactic(auto, unfolding(crate::specs::Asked::after))]
     fn after(self, role: usize) -> Ask
         ensures { meant result ≡ after_of (meant self) (eqb 0 role) }
     {
@@ -100,6 +105,7 @@ impl Ask {
     }
 
     // What it asks of a node of this kind, in order.
+    #[tactic(auto, unfolding(crate::specs::Asked::row))]
     fn plan(self, kind: usize) -> &'static [Ask]
         ensures { map number result.now ≡ row (meant self) kind }
     {

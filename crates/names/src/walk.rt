@@ -140,62 +140,62 @@ impl Walk<'_> {
 
     #[cycle(walking)]
     #[inline(never)]
-    fn ret(&self, c: usize, d: usize, w: &mut [u16], s: Scope) -> Scope
+    fn ret(&self, c: usize, d: usize, w: &mut [u16], mut s: Scope) -> Scope
         requires { (kind_at self.now.t.now c ≡ 4) × Node self.now.t.now c d × Fits w.old s }
         ensures { Goes self.now.t.now d (node_of self.now.t.now self.now.fail c) w.old s w.new result }
     {
-        let a = self.down(c, Wanted::Of(Role::Expression), d, w, s);
-        a.stop(Abort::Function)
+        s = self.down(c, Wanted::Of(Role::Expression), d, w, s);
+        s.stop(Abort::Function)
     }
 
     // A statement that is an expression ends the function if it calls fail.
     #[cycle(walking)]
     #[inline(never)]
-    fn eval(&self, c: usize, d: usize, w: &mut [u16], s: Scope) -> Scope
+    fn eval(&self, c: usize, d: usize, w: &mut [u16], mut s: Scope) -> Scope
         requires { (kind_at self.now.t.now c ≡ 5) × Node self.now.t.now c d × Fits w.old s }
         ensures { Goes self.now.t.now d (node_of self.now.t.now self.now.fail c) w.old s w.new result }
     {
-        let a = self.down(c, Wanted::Of(Role::Expression), d, w, s);
+        s = self.down(c, Wanted::Of(Role::Expression), d, w, s);
         let e = c + size_at(self.t, c);
         if is_fail(self.t, self.fail, c + 1, e) {
-            return a.stop(Abort::Function);
+            return s.stop(Abort::Function);
         }
-        a
+        s
     }
 
     #[cycle(walking)]
     #[inline(never)]
-    fn gets(&self, c: usize, d: usize, w: &mut [u16], s: Scope) -> Scope
+    fn gets(&self, c: usize, d: usize, w: &mut [u16], mut s: Scope) -> Scope
         requires { (kind_at self.now.t.now c ≡ 6) × Node self.now.t.now c d × Fits w.old s }
         ensures { Goes self.now.t.now d (node_of self.now.t.now self.now.fail c) w.old s w.new result }
     {
-        let a = self.down(c, Wanted::Of(Role::Type), d, w, s);
-        let b = self.down(c, Wanted::Of(Role::Expression), d, w, a);
-        self.assign(c, d, w, b)
+        s = self.down(c, Wanted::Of(Role::Type), d, w, s);
+        s = self.down(c, Wanted::Of(Role::Expression), d, w, s);
+        self.assign(c, d, w, s)
     }
 
     #[cycle(walking)]
     #[inline(never)]
-    fn modify(&self, c: usize, d: usize, w: &mut [u16], s: Scope) -> Scope
+    fn modify(&self, c: usize, d: usize, w: &mut [u16], mut s: Scope) -> Scope
         requires { (kind_at self.now.t.now c ≡ 7) × Node self.now.t.now c d × Fits w.old s }
         ensures { Goes self.now.t.now d (node_of self.now.t.now self.now.fail c) w.old s w.new result }
     {
-        let a = self.down(c, Wanted::Of(Role::Expression), d, w, s);
-        let b = self.down(c, Wanted::Of(Role::Target), d, w, a);
-        let x = self.bind(c, Role::Target, Binding::Uses, w, b);
-        self.assign(c, d, w, x)
+        s = self.down(c, Wanted::Of(Role::Expression), d, w, s);
+        s = self.down(c, Wanted::Of(Role::Target), d, w, s);
+        s = self.bind(c, Role::Target, Binding::Uses, w, s);
+        self.assign(c, d, w, s)
     }
 
     // The target of node c: its expressions, then its names.
     #[cycle(walking)]
     #[inline(never)]
-    fn assign(&self, c: usize, d: usize, w: &mut [u16], s: Scope) -> Scope
+    fn assign(&self, c: usize, d: usize, w: &mut [u16], mut s: Scope) -> Scope
         requires { Node self.now.t.now c d × Fits w.old s }
         ensures { Goes self.now.t.now d (down_of self.now.t.now self.now.fail (of_role 5) c ⨟ node_bind self.now.t.now 5 c) w.old s w.new result }
     {
-        let mut a = self.down(c, Wanted::Of(Role::Target), d, w, s);
-        a = self.bind(c, Role::Target, Binding::Sets, w, a);
-        a
+        s = self.down(c, Wanted::Of(Role::Target), d, w, s);
+        s = self.bind(c, Role::Target, Binding::Sets, w, s);
+        s
     }
 
     // Lists, if, if-else, for, def, load.
@@ -223,15 +223,15 @@ impl Walk<'_> {
     // An if, an if-else: its condition first.
     #[cycle(walking)]
     #[inline(never)]
-    fn cond(&self, c: usize, k: usize, d: usize, w: &mut [u16], s: Scope) -> Scope
+    fn cond(&self, c: usize, k: usize, d: usize, w: &mut [u16], mut s: Scope) -> Scope
         requires { (k ≡ kind_at self.now.t.now c) × (9 ≤ k) × (k < 11) × Node self.now.t.now c d × Fits w.old s }
         ensures { Goes self.now.t.now d (node_of self.now.t.now self.now.fail c) w.old s w.new result }
     {
-        let a = self.down(c, Wanted::Of(Role::Expression), d, w, s);
+        s = self.down(c, Wanted::Of(Role::Expression), d, w, s);
         if k == Kind::If as usize {
-            self.side(c, d, w, a)
+            self.side(c, d, w, s)
         } else {
-            self.branch(c, d, w, a)
+            self.branch(c, d, w, s)
         }
     }
 
@@ -243,8 +243,7 @@ impl Walk<'_> {
         ensures { Goes self.now.t.now d (branch (down_of self.now.t.now self.now.fail (of_role 1) c) skip) w.old s w.new result }
     {
         let a = self.down(c, Wanted::Of(Role::First), d, w, s);
-        let b = a.back(s);
-        b.join(a)
+        a.back(s).join(a)
     }
 
     // Both sides start from the same standings and abort.
@@ -262,18 +261,18 @@ impl Walk<'_> {
     // A for: what it goes over, then its rounds, two, or one from the sixth on. Not in cond, whose sides would add to a for's stack.
     #[cycle(walking)]
     #[inline(never)]
-    fn loops(&self, c: usize, d: usize, w: &mut [u16], s: Scope) -> Scope
+    fn loops(&self, c: usize, d: usize, w: &mut [u16], mut s: Scope) -> Scope
         requires { (kind_at self.now.t.now c ≡ 11) × (d ≤ c) × Node self.now.t.now c d × Fits w.old s }
         ensures { Goes self.now.t.now d (node_of self.now.t.now self.now.fail c) w.old s w.new result }
     {
         let n = d + 1;
-        let mut a = self.down(c, Wanted::Of(Role::Expression), d, w, s);
-        a = self.turn(c, n, w, a);
+        s = self.down(c, Wanted::Of(Role::Expression), d, w, s);
+        s = self.turn(c, n, w, s);
         if 5 < n {
-            return a;
+            return s;
         }
-        a = self.turn(c, n, w, a);
-        a
+        s = self.turn(c, n, w, s);
+        s
     }
 
     #[cycle(walking)]
@@ -282,23 +281,21 @@ impl Walk<'_> {
         requires { Node self.now.t.now c d × Fits w.old s }
         ensures { Turns self.now.t.now d (down_of self.now.t.now self.now.fail (of_role 5) c ⨟ node_bind self.now.t.now 5 c ⨟ down_of self.now.t.now self.now.fail (of_role 1) c) w.old s w.new result }
     {
-        let x = self.assign(c, d, w, s);
-        let a = self.down(c, Wanted::Of(Role::First), d, w, x);
-        let b = a.back(s);
-        let j = b.join(a);
-        j.unlooped()
+        let mut a = self.assign(c, d, w, s);
+        a = self.down(c, Wanted::Of(Role::First), d, w, a);
+        a.back(s).join(a).unlooped()
     }
 
     #[cycle(walking)]
     #[inline(never)]
-    fn def(&self, c: usize, d: usize, w: &mut [u16], s: Scope) -> Scope
+    fn def(&self, c: usize, d: usize, w: &mut [u16], mut s: Scope) -> Scope
         requires { (kind_at self.now.t.now c ≡ 12) × Node self.now.t.now c d × Fits w.old s }
         ensures { Goes self.now.t.now d (node_of self.now.t.now self.now.fail c) w.old s w.new result }
     {
-        let a = self.down(c, Wanted::Of(Role::Item), d, w, s);
-        let b = self.down(c, Wanted::Of(Role::Type), d, w, a);
-        let n = self.bind(c, Role::Name, Binding::Sets, w, b);
-        self.body(c, d, w, n)
+        s = self.down(c, Wanted::Of(Role::Item), d, w, s);
+        s = self.down(c, Wanted::Of(Role::Type), d, w, s);
+        s = self.bind(c, Role::Name, Binding::Sets, w, s);
+        self.body(c, d, w, s)
     }
 
     // The scope of a def or a lambda.
@@ -308,19 +305,19 @@ impl Walk<'_> {
         requires { Node self.now.t.now c d × Fits w.old s }
         ensures { Goes self.now.t.now d (scope (node_bind self.now.t.now 0 c ⨟ down_of self.now.t.now self.now.fail (of_role 1) c)) w.old s w.new result }
     {
-        let a = self.bind(c, Role::Item, Binding::Sets, w, s.enter());
-        let b = self.down(c, Wanted::Of(Role::First), d, w, a);
-        b.leave(self.t, w, s)
+        let mut inner = self.bind(c, Role::Item, Binding::Sets, w, s.enter());
+        inner = self.down(c, Wanted::Of(Role::First), d, w, inner);
+        inner.leave(self.t, w, s)
     }
 
     #[cycle(walking)]
     #[inline(never)]
-    fn lambda(&self, c: usize, d: usize, w: &mut [u16], s: Scope) -> Scope
+    fn lambda(&self, c: usize, d: usize, w: &mut [u16], mut s: Scope) -> Scope
         requires { (kind_at self.now.t.now c ≡ 24) × Node self.now.t.now c d × Fits w.old s }
         ensures { Goes self.now.t.now d (node_of self.now.t.now self.now.fail c) w.old s w.new result }
     {
-        let a = self.down(c, Wanted::Of(Role::Item), d, w, s);
-        self.body(c, d, w, a)
+        s = self.down(c, Wanted::Of(Role::Item), d, w, s);
+        self.body(c, d, w, s)
     }
 
     #[cycle(walking)]
@@ -343,16 +340,15 @@ impl Walk<'_> {
 
     #[cycle(walking)]
     #[inline(never)]
-    fn comp(&self, c: usize, d: usize, w: &mut [u16], s: Scope) -> Scope
+    fn comp(&self, c: usize, d: usize, w: &mut [u16], mut s: Scope) -> Scope
         requires { Node self.now.t.now c d × Fits w.old s }
         ensures { Goes self.now.t.now d (over_of self.now.t.now self.now.fail c ⨟ scope (bound_of self.now.t.now self.now.fail c ⨟ down_of self.now.t.now self.now.fail (of_role 8) c ⨟ down_of self.now.t.now self.now.fail (of_role 4) c)) w.old s w.new result }
     {
         let e = c + size_at(self.t, c);
         let first = child_of(self.t, Role::Item as usize, c + 1, e);
-        let a = self.over(c, first, d, w, s);
-        let mut b = self.rest(c, first, d, w, a.enter());
-        b = b.leave(self.t, w, a);
-        b
+        s = self.over(c, first, d, w, s);
+        let inner = self.rest(c, first, d, w, s.enter());
+        inner.leave(self.t, w, s)
     }
 
     // The over of the comprehension c's first clause.
@@ -371,27 +367,27 @@ impl Walk<'_> {
     // What of the comprehension c comes after its first over.
     #[cycle(walking)]
     #[inline(never)]
-    fn rest(&self, c: usize, first: Option<usize>, d: usize, w: &mut [u16], s: Scope) -> Scope
+    fn rest(&self, c: usize, first: Option<usize>, d: usize, w: &mut [u16], mut s: Scope) -> Scope
         requires { (first ≡ first_clause self.now.t.now c) × Node self.now.t.now c d × Fits w.old s }
         ensures { Goes self.now.t.now d (bound_of self.now.t.now self.now.fail c ⨟ down_of self.now.t.now self.now.fail (of_role 8) c ⨟ down_of self.now.t.now self.now.fail (of_role 4) c) w.old s w.new result }
     {
-        let a = self.bound(c, first, d, w, s);
-        let b = self.down(c, Wanted::Of(Role::Key), d, w, a);
-        self.down(c, Wanted::Of(Role::Expression), d, w, b)
+        s = self.bound(c, first, d, w, s);
+        s = self.down(c, Wanted::Of(Role::Key), d, w, s);
+        self.down(c, Wanted::Of(Role::Expression), d, w, s)
     }
 
     // The first target, and the later clauses.
     #[cycle(walking)]
     #[inline(never)]
-    fn bound(&self, c: usize, first: Option<usize>, d: usize, w: &mut [u16], s: Scope) -> Scope
+    fn bound(&self, c: usize, first: Option<usize>, d: usize, w: &mut [u16], mut s: Scope) -> Scope
         requires { (first ≡ first_clause self.now.t.now c) × Node self.now.t.now c d × Fits w.old s }
         ensures { Goes self.now.t.now d (bound_of self.now.t.now self.now.fail c) w.old s w.new result }
     {
         let Some(x) = first else {
             return s;
         };
-        let a = self.assign(x, d, w, s);
-        self.later(c, x, d, w, a)
+        s = self.assign(x, d, w, s);
+        self.later(c, x, d, w, s)
     }
 
     // The clauses of the comprehension c after the first, x.
@@ -412,15 +408,15 @@ impl Walk<'_> {
 
     #[cycle(walking)]
     #[inline(never)]
-    fn clause(&self, i: usize, d: usize, w: &mut [u16], s: Scope) -> Scope
+    fn clause(&self, i: usize, d: usize, w: &mut [u16], mut s: Scope) -> Scope
         requires { Node self.now.t.now i d × Fits w.old s }
         ensures { Goes self.now.t.now d (clause_of self.now.t.now self.now.fail i) w.old s w.new result }
     {
         if role_at(self.t, i) != Role::Item as usize {
             return s;
         }
-        let a = self.down(i, Wanted::Of(Role::Expression), d, w, s);
-        self.assign(i, d, w, a)
+        s = self.down(i, Wanted::Of(Role::Expression), d, w, s);
+        self.assign(i, d, w, s)
     }
 
     // The names that the children of a role of node c bind.

@@ -18,6 +18,5 @@ pub mod Premises
 pub mod Letter
 pub mod code
 pub mod Codes
-pub mod Decoded
 pub mod Known
 pub mod Examples

@@ -1,2 +1,3 @@
 -- For the engines and their laws: nobody has to believe it.
 pub mod Marks
+pub mod Decoded

@@ -2,7 +2,7 @@
 #![tactic(auto)]
 
 ghost use Rattle.std.specs.Prelude.{◌≡◌};
-ghost use Rattle.rules.specs.Decoded.{Decodes};
+ghost use Rattle.rules.specs.code.Decoded.{Decodes};
 ghost use Rattle.rules.specs.Incompatible.{allowance, free};
 ghost use Rattle.rules.specs.Outcome.{number_of, place_of};
 ghost use Rattle.rules.specs.declared.Refusal.TheVariants.{Tree};

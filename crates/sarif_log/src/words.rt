@@ -3,7 +3,7 @@ ghost use Rattle.std.specs.Prelude.{◌≡◌, [], ◌++◌, ◌≤◌, length, 
 ghost use Rattle.base.specs.Ascii.{ascii};
 ghost use Rattle.rules.specs.Visit.{look};
 ghost use Rattle.tree.specs.code.Kinds.{number as kind_number};
-ghost use Rattle.rules.specs.Decoded.{number_of};
+ghost use Rattle.rules.specs.code.Decoded.{number_of};
 ghost use Rattle.page.specs.Page.{Added};
 ghost use Rattle.sarif_log.specs.Words.{phrases, reasons, seconds, phrase, kind_word};
 

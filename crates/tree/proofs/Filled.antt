@@ -11,9 +11,9 @@ use borrow.Author.Tests.{ne_eqb}
 use Rattle.tree.specs.Bytes.{pick, role_at, kind_at}
 use Rattle.tree.specs.Children.{class_of, in_class, slot_of}
 use Rattle.tree.specs.code.Kids.{kids_stand, of_role, filled, kids_filled}
-use Rattle.tree.specs.code.Packed.{rows, digit_of}
+use Rattle.tree.specs.code.Packed.{rows, digit_of, class_list, least_list, most_list}
 use Rattle.tree.proofs.Kids.{filled_more}
-use Rattle.tree.proofs.Slots.{cut, cut_nothing, digit_far, class_list, least_list, most_list, class_at, least_at, most_at}
+use Rattle.tree.proofs.Slots.{cut, cut_nothing, digit_far, class_at, least_at, most_at}
 
 -- no kind is of the class `nothing`
 no_kind : (k : ℕ) → in_class 9 k ≡ false

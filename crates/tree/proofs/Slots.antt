@@ -11,8 +11,7 @@ use native.Mathlib.Numerals.{add-one}
 use borrow.Author.Tests.{ne_eqb, lt-ltb, le-ltb}
 use Rattle.tree.specs.Bytes.{pick}
 use Rattle.tree.specs.Children.{Slot, slot, slots, slots_of, slot_in, slot_of}
-use Rattle.tree.specs.code.Packed.{rows, digit_of}
-use Rattle.tree.specs.declared.children.Form.{Form}
+use Rattle.tree.specs.code.Packed.{rows, digit_of, class_list, least_list, most_list}
 use Rattle.tree.proofs.Table.{at}
 
 and_l : (a b : Bool) → T (a && b) → T a
@@ -63,16 +62,6 @@ near_of k (e ∷ es) l = go (eqb k e.0) (near_of k es (and_r (near e.1) (nears e
 pub far_role : (k r : ℕ) → 9 ≤ r → slot_of k r ≡ slot 9 r 0 0
 unfolding slot_of near nears
 far_role k r h = far_in r (slots_of k slots) (near_of k slots tt) h
-
--- what each number of the code's table is: the class, the least and the most
-unfoldable pub class_list : List ℕ
-class_list = 9 ∷ 1 ∷ 1 ∷ 2 ∷ 2 ∷ 2 ∷ 2 ∷ 3 ∷ 3 ∷ 4 ∷ 5 ∷ 7 ∷ 6 ∷ []
-
-unfoldable pub least_list : List ℕ
-least_list = 0 ∷ 1 ∷ 0 ∷ 1 ∷ 0 ∷ 0 ∷ 3 ∷ 1 ∷ 0 ∷ 0 ∷ 1 ∷ 1 ∷ 0 ∷ []
-
-unfoldable pub most_list : List ℕ
-most_list = 0 ∷ 1 ∷ 1024 ∷ 1 ∷ 1 ∷ 1024 ∷ 3 ∷ 1 ∷ 1024 ∷ 1024 ∷ 1024 ∷ 1 ∷ 1024 ∷ []
 
 -- row x of kind k says of role r what the list of 01 says
 digit : ℕ → ℕ → ℕ
@@ -179,50 +168,6 @@ shift_right r = eqb (2 ^ (4 * r)) (16 ^ r)
 pub digit_read : (k r : ℕ) → k < 48 → r < 9 → get_or rows k 0 / 2 ^ (4 * r) % 16 ≡ digit_of k r
 unfolding digit shift_right below
 digit_read k r a b = rw (eqb→eq (2 ^ (4 * r)) (16 ^ r) (below_at 9 shift_right tt r b)) (sym (digit_in k r a b))
-
--- the code's table of forms
-abbrev pub form : ℕ → ℕ → ℕ → Form
-form c l m = record { class = c; least = l; most = m }
-
-unfoldable pub form_list : List Form
-form_list = form 9 0 0 ∷ form 1 1 1 ∷ form 1 0 1024 ∷ form 2 1 1 ∷ form 2 0 1 ∷ form 2 0 1024 ∷ form 2 3 3 ∷ form 3 1 1 ∷ form 3 0 1024 ∷ form 4 0 1024 ∷ form 5 1 1024 ∷ form 7 1 1 ∷ form 6 0 1024 ∷ []
-
-form_right : Form → ℕ → Bool
-form_right f d =
-    eqb (get_or form_list d f).class (get_or class_list d 0)
-    && (eqb (get_or form_list d f).least (get_or least_list d 0) && eqb (get_or form_list d f).most (get_or most_list d 0))
-
-form_true : (f : Form) (d : ℕ) → d < 13 → T (form_right f d)
-unfolding form_right form_list class_list least_list most_list below
-form_true f d h = below_at 13 (form_right f) tt d h
-
-record Same (f : Form) (d : ℕ) : Type 0 where
-  class : (get_or form_list d f).class ≡ get_or class_list d 0
-  least : (get_or form_list d f).least ≡ get_or least_list d 0
-  most : (get_or form_list d f).most ≡ get_or most_list d 0
-
-same : (f : Form) (d : ℕ) → d < 13 → Same f d
-unfolding form_right
-same f d h =
-    let a = eqb (get_or form_list d f).class (get_or class_list d 0) in
-    let b = eqb (get_or form_list d f).least (get_or least_list d 0) in
-    let c = eqb (get_or form_list d f).most (get_or most_list d 0) in
-    let t = form_true f d h in
-    record {
-      class = eqb→eq (get_or form_list d f).class (get_or class_list d 0) (and_l a (b && c) t);
-      least = eqb→eq (get_or form_list d f).least (get_or least_list d 0) (and_l b c (and_r a (b && c) t));
-      most = eqb→eq (get_or form_list d f).most (get_or most_list d 0) (and_r b c (and_r a (b && c) t));
-    }
-
--- what a form of the code's table is, where the digit is that of role r of kind k
-pub form_class : (f : Form) (k r d : ℕ) → d < 13 → digit_of k r ≡ d → (get_or form_list d f).class ≡ (slot_of k r).class
-form_class f k r d h q = (same f d h).class ∙ (sym (ap (λ (x : ℕ). get_or class_list x 0) q) ∙ class_at k r)
-
-pub form_least : (f : Form) (k r d : ℕ) → d < 13 → digit_of k r ≡ d → (get_or form_list d f).least ≡ (slot_of k r).least
-form_least f k r d h q = (same f d h).least ∙ (sym (ap (λ (x : ℕ). get_or least_list x 0) q) ∙ least_at k r)
-
-pub form_most : (f : Form) (k r d : ℕ) → d < 13 → digit_of k r ≡ d → (get_or form_list d f).most ≡ (slot_of k r).most
-form_most f k r d h q = (same f d h).most ∙ (sym (ap (λ (x : ℕ). get_or most_list x 0) q) ∙ most_at k r)
 
 -- row x without its r lowest digits, as the code comes to it
 unfoldable pub cut : ℕ → ℕ → ℕ

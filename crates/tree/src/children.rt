@@ -1,8 +1,8 @@
 // The children of a node: what they may be, refusal 7, and the first one of a role.
-ghost use Rattle.std.specs.Prelude.{◌≡◌, ◌+◌, ◌<◌, ◌≤◌, true};
+ghost use Rattle.std.specs.Prelude.{◌≡◌, ◌+◌, ◌<◌, ◌≤◌, true, get_or};
 ghost use Rattle.tree.specs.Bytes.{size_at};
 ghost use Rattle.tree.specs.code.Find.{first_child};
-ghost use Rattle.tree.specs.code.Packed.{digit_of, Fills};
+ghost use Rattle.tree.specs.code.Packed.{digit_of, Fills, class_list, least_list, most_list};
 ghost use Rattle.tree.specs.Children.{class_of, in_class, slot_of, root_ok};
 ghost use Rattle.tree.specs.code.Kids.{kids_from, kids_stand, of_role, kids_filled, paired, kids_for_first, kids_in_order, good7, bad7, Sized};
 ghost use Rattle.tree.specs.declared.Refusal.TheVariants.{Children};
@@ -41,7 +41,8 @@ fn class_of(k: usize) -> usize
     }
 }
 
-// The kinds and their children, a row for each kind. The hex digit for role r, from the right, is the number of what
+// The kinds and their children, a row for each kind, one number: most kinds have few roles or none, and a loop over the
+// digits ends where none is left (docs/SPEED.md, "judge"). The hex digit for role r, from the right, is the number of what
 // may stand in that role: 0 nothing, 1 one statement, 2 any; 3 one expression, 4 at most one, 5 any, 6 three;
 // 7 one target, 8 any; 9 any parameters; a some clauses; b a def's name; c any loaded names.
 const ROWS: [u64; 48] = [
@@ -103,74 +104,33 @@ struct Form {
     most: usize,
 }
 
-// By the digits of ROWS. No file has more than 1,024 nodes: that many are any number.
-const FORMS: [Form; 13] = [
-    Form {
-        class: Class::Nothing as usize,
-        least: 0,
-        most: 0,
-    },
-    Form {
-        class: Class::Statement as usize,
-        least: 1,
-        most: 1,
-    },
-    Form {
-        class: Class::Statement as usize,
-        least: 0,
-        most: 1024,
-    },
-    Form {
-        class: Class::Expression as usize,
-        least: 1,
-        most: 1,
-    },
-    Form {
-        class: Class::Expression as usize,
-        least: 0,
-        most: 1,
-    },
-    Form {
-        class: Class::Expression as usize,
-        least: 0,
-        most: 1024,
-    },
-    Form {
-        class: Class::Expression as usize,
-        least: 3,
-        most: 3,
-    },
-    Form {
-        class: Class::Target as usize,
-        least: 1,
-        most: 1,
-    },
-    Form {
-        class: Class::Target as usize,
-        least: 0,
-        most: 1024,
-    },
-    Form {
-        class: Class::Parameter as usize,
-        least: 0,
-        most: 1024,
-    },
-    Form {
-        class: Class::Clause as usize,
-        least: 1,
-        most: 1024,
-    },
-    Form {
-        class: Class::Name as usize,
-        least: 1,
-        most: 1,
-    },
-    Form {
-        class: Class::LoadedName as usize,
-        least: 0,
-        most: 1024,
-    },
-];
+// What the digits of ROWS stand for. No file has more than 1,024 nodes: that many are any number.
+// Kept: a match in place of a constant table of forms. Such a table is made anew on the stack at each use: judging 1,021 nodes took
+// 610,374 instructions with it, 443,807 with this.
+#[tactic(auto, unfolding(crate::specs::code::Packed::class_list, crate::specs::code::Packed::least_list, crate::specs::code::Packed::most_list))]
+fn form_of(d: usize) -> Form
+    requires { d < 13 }
+    ensures class { result.class ≡ get_or class_list d 0 }
+    ensures least { result.least ≡ get_or least_list d 0 }
+    ensures most { result.most ≡ get_or most_list d 0 }
+{
+    let (class, least, most) = match d {
+        1 => (Class::Statement as usize, 1, 1),
+        2 => (Class::Statement as usize, 0, 1024),
+        3 => (Class::Expression as usize, 1, 1),
+        4 => (Class::Expression as usize, 0, 1),
+        5 => (Class::Expression as usize, 0, 1024),
+        6 => (Class::Expression as usize, 3, 3),
+        7 => (Class::Target as usize, 1, 1),
+        8 => (Class::Target as usize, 0, 1024),
+        9 => (Class::Parameter as usize, 0, 1024),
+        10 => (Class::Clause as usize, 1, 1024),
+        11 => (Class::Name as usize, 1, 1),
+        12 => (Class::LoadedName as usize, 0, 1024),
+        _ => (Class::Nothing as usize, 0, 0),
+    };
+    Form { class, least, most }
+}
 
 // The number of what may stand in role r of kind k.
 fn slot_number(k: usize, r: usize) -> usize
@@ -186,7 +146,7 @@ fn slot_number(k: usize, r: usize) -> usize
 fn slot_class(k: usize, r: usize) -> usize
     ensures { result ≡ (slot_of k r).class }
 {
-    FORMS[slot_number(k, r)].class
+    form_of(slot_number(k, r)).class
 }
 
 fn stands(c: usize, k: usize) -> bool
@@ -199,112 +159,119 @@ fn stands(c: usize, k: usize) -> bool
     }
 }
 
-fn all_stand(t: &[u8], k: usize, from: usize, e: usize) -> bool
-    requires { (e ≤ 1024) × Sized t.now e }
-    ensures { result ≡ kids_stand t.now k (kids_from t.now from e) }
-{
-    let mut c = from;
-    while c < e {
-        if !stands(slot_class(k, role_at(t, c)), kind_at(t, c)) {
-            return false;
+// The children of a node: whole subtrees, from node `from` up to `end`. The loops over them step by the sizes that they read.
+#[derive(Clone, Copy)]
+struct Kids<'a> {
+    t: &'a [u8],
+    from: usize,
+    end: usize,
+    ghost few: { end ≤ 1024 },
+    ghost sized: { Sized t.now end },
+}
+
+impl Kids<'_> {
+    fn all_stand(&self, k: usize) -> bool
+        ensures { result ≡ kids_stand self.now.t.now k (kids_from self.now.t.now self.now.from self.now.end) }
+    {
+        let mut c = self.from;
+        while c < self.end {
+            if !stands(slot_class(k, role_at(self.t, c)), kind_at(self.t, c)) {
+                return false;
+            }
+            c += size_at(self.t, c);
         }
-        c += size_at(t, c);
-    }
-    true
-}
-
-fn of_role(t: &[u8], r: usize, from: usize, e: usize) -> usize
-    requires { (e ≤ 1024) × Sized t.now e }
-    ensures { result ≡ of_role t.now r (kids_from t.now from e) }
-{
-    let mut m = 0;
-    let mut c = from;
-    while c < e {
-        if role_at(t, c) == r {
-            m += 1;
-        }
-        c += size_at(t, c);
-    }
-    m
-}
-
-// Whether the children of role r are as many as d says, the number of what may stand there. Where that is nothing, no
-// child that stands has the role: there is none to count.
-fn role_filled(t: &[u8], d: usize, r: usize, from: usize, e: usize) -> bool
-    requires { (e ≤ 1024) × Sized t.now e × (d < 13) }
-    ensures { Fills t.now d r (kids_from t.now from e) result }
-{
-    if d == 0 {
-        return true;
-    }
-    let m = of_role(t, r, from, e);
-    let form = FORMS[d];
-    form.least <= m && m <= form.most
-}
-
-// Digit by digit while any is left of the kind's row.
-fn all_filled(t: &[u8], k: usize, from: usize, e: usize) -> bool
-    requires { (e ≤ 1024) × Sized t.now e × (kids_stand t.now k (kids_from t.now from e) ≡ true) }
-    ensures { result ≡ kids_filled 9 t.now k (kids_from t.now from e) }
-{
-    if 48 <= k {
-        return true;
-    }
-    let mut row = ROWS[k];
-    let mut r = 0;
-    while row != 0 {
-        let d = (row % 16) as usize;
-        if !role_filled(t, d, r, from, e) {
-            return false;
-        }
-        row /= 16;
-        r += 1;
-    }
-    true
-}
-
-fn all_paired(t: &[u8], from: usize, e: usize) -> bool
-    requires { (e ≤ 1024) × Sized t.now e }
-    ensures { result ≡ paired t.now 8 (kids_from t.now from e) }
-{
-    let (key, value) = (Role::Key as usize, Role::Expression as usize);
-    let mut due = key;
-    let mut c = from;
-    while c < e {
-        if role_at(t, c) != due {
-            return false;
-        }
-        due = if due == key { value } else { key };
-        c += size_at(t, c);
-    }
-    due == key
-}
-
-fn for_first(t: &[u8], from: usize, e: usize) -> bool
-    requires { (e ≤ 1024) × Sized t.now e }
-    ensures { result ≡ kids_for_first t.now (kids_from t.now from e) }
-{
-    let mut c = from;
-    while c < e {
-        if role_at(t, c) == Role::Item as usize {
-            return kind_at(t, c) == Kind::ForClause as usize;
-        }
-        c += size_at(t, c);
-    }
-    true
-}
-
-#[tactic(auto, unfolding(crate::specs::code::Kids::kids_in_order))]
-fn kids_ordered(t: &[u8], k: usize, from: usize, e: usize) -> bool
-    requires { (e ≤ 1024) × Sized t.now e }
-    ensures { result ≡ kids_in_order t.now k (kids_from t.now from e) }
-{
-    if k == Kind::Dict as usize {
-        all_paired(t, from, e)
-    } else if k == Kind::ListComprehension as usize || k == Kind::DictComprehension as usize {
-        for_first(t, from, e)
-    } else {
         true
+    }
+
+    fn of_role(&self, r: usize) -> usize
+        ensures { result ≡ of_role self.now.t.now r (kids_from self.now.t.now self.now.from self.now.end) }
+    {
+        let mut m = 0;
+        let mut c = self.from;
+        while c < self.end {
+            if role_at(self.t, c) == r {
+                m += 1;
+            }
+            c += size_at(self.t, c);
+        }
+        m
+    }
+
+    // Whether the children of role r are as many as d says, the number of what may stand there. Where that is nothing, no
+    // child that stands has the role: there is none to count.
+    fn role_filled(&self, d: usize, r: usize) -> bool
+        requires { d < 13 }
+        ensures { Fills self.now.t.now d r (kids_from self.now.t.now self.now.from self.now.end) result }
+    {
+        if d == 0 {
+            return true;
+        }
+        let m = self.of_role(r);
+        let form = form_of(d);
+        form.least <= m && m <= form.most
+    }
+
+    // Digit by digit while any is left of the kind's row.
+    fn all_filled(&self, k: usize) -> bool
+        requires { kids_stand self.now.t.now k (kids_from self.now.t.now self.now.from self.now.end) ≡ true }
+        ensures { result ≡ kids_filled 9 self.now.t.now k (kids_from self.now.t.now self.now.from self.now.end) }
+    {
+        if 48 <= k {
+            return true;
+        }
+        let mut row = ROWS[k];
+        let mut r = 0;
+        while row != 0 {
+            let d = (row % 16) as usize;
+            if !self.role_filled(d, r) {
+                return false;
+            }
+            row /= 16;
+            r += 1;
+        }
+        true
+    }
+
+    fn all_paired(&self) -> bool
+        ensures { result ≡ paired self.now.t.now 8 (kids_from self.now.t.now self.now.from self.now.end) }
+    {
+        let (key, value) = (Role::Key as usize, Role::Expression as usize);
+        let mut due = key;
+        let mut c = self.from;
+        while c < self.end {
+            if role_at(self.t, c) != due {
+                return false;
+            }
+            due = if due == key { value } else { key };
+            c += size_at(self.t, c);
+        }
+        due == key
+    }
+
+    fn for_first(&self) -> bool
+        ensures { result ≡ kids_for_first self.now.t.now (kids_from self.now.t.now self.now.from self.now.end) }
+    {
+        let mut c = self.from;
+        while c < self.end {
+            if role_at(self.t, c) == Role::Item as usize {
+                return kind_at(self.t, c) == Kind::ForClause as usize;
+            }
+            c += size_at(self.t, c);
+        }
+        true
+    }
+
+    #[tactic(auto, unfolding(crate::specs::code::Kids::kids_in_order))]
+    fn in_order(&self, k: usize) -> bool
+        ensures { result ≡ kids_in_order self.now.t.now k (kids_from self.now.t.now self.now.from self.now.end) }
+    {
+        if k == Kind::Dict as usize {
+            self.all_paired()
+        } else if k == Kind::ListComprehension as usize || k == Kind::DictComprehension as usize {
+            self.for_first()
+        } else {
+            true
+        }
     }
 }
 
@@ -314,9 +281,12 @@ fn kids_ok(t: &[u8], p: usize) -> bool
     ensures { result ≡ good7 t.now p }
 {
     let k = kind_at(t, p);
-    let from = p + 1;
-    let e = p + size_at(t, p);
-    all_stand(t, k, from, e) && all_filled(t, k, from, e) && kids_ordered(t, k, from, e)
+    let kids = Kids {
+        t,
+        from: p + 1,
+        end: p + size_at(t, p),
+    };
+    kids.all_stand(k) && kids.all_filled(k) && kids.in_order(k)
 }
 
 #[tactic(auto, unfolding(crate::specs::Children::root_ok))]

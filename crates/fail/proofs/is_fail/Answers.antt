@@ -1,20 +1,9 @@
-use native.Mathlib.Omega.{arith}
-use mathlib.Core.Path.{refl}
 use Rattle.fail.proofs.Laws.{called_end, called_here, called_next}
 use Rattle.fail.proofs.is_fail.Goals as goal
-
-pub loop-j-init : goal.loop-j-init
-loop-j-init c = λ p. (p, refl)
-
-pub is_call-requires : goal.is_call-requires
-is_call-requires c = c.next-n.ensures.0
 
 pub returns-then-is_call : goal.returns-then-is_call
 returns-then-is_call c =
     called_here c.args.fail c.next-n.ensures.2 c.is_call.ensures c.loop-j.invariant c.loop-j-test.true c.if-is_call.true
-
-pub loop-j-smaller : goal.loop-j-smaller
-loop-j-smaller c = omega (arith, c.next-n.ensures.0, c.next-n.ensures.1)
 
 pub loop-j-preserved : goal.loop-j-preserved
 loop-j-preserved c =

@@ -1,16 +1,8 @@
-use native.Mathlib.Omega.{arith}
-use mathlib.Core.Path.{refl}
 use Rattle.fail.proofs.Laws.{named_end, named_here, named_next}
 use Rattle.fail.proofs.names_fail.Goals as goal
 
-pub loop-j-init : goal.loop-j-init
-loop-j-init c = λ p. (p, refl)
-
 pub returns-then-is_named : goal.returns-then-is_named
 returns-then-is_named c = named_here c.args.fail c.is_named.ensures c.loop-j.invariant c.loop-j-test.true c.if-is_named.true
-
-pub loop-j-smaller : goal.loop-j-smaller
-loop-j-smaller c = omega (arith, c.next-j.ensures.0, c.next-j.ensures.1)
 
 pub loop-j-preserved : goal.loop-j-preserved
 loop-j-preserved c =

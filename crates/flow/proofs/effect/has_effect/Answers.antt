@@ -1,5 +1,5 @@
 use native.Mathlib.Omega.{arith}
-use mathlib.Core.Path.{refl, sym, ◌∙◌}
+use mathlib.Core.Path.{sym, ◌∙◌}
 use Rattle.tree.proofs.Laws.{sized, later}
 use Rattle.flow.specs.Walks.{is_text}
 use Rattle.flow.proofs.Steps.{effect_past, effect_hit, effect_miss, inside_after}
@@ -8,10 +8,6 @@ use Rattle.flow.proofs.effect.has_effect.Goals as goal
 pub returns-then-acts : goal.returns-then-acts
 returns-then-acts c =
     effect_hit c.args.strings.now c.loop-j.invariant.0 c.loop-j-test.true (sym c.acts.ensures ∙ c.if-acts.true) ∙ sym c.loop-j.invariant.1
-
-pub loop-j-smaller : goal.loop-j-smaller
-loop-j-smaller c =
-    omega (arith, inside_after c.args.t.now c.loop-j.j (sized c.loop-j.invariant.0 c.loop-j-test.true), c.inward-j.ensures, c.loop-j-test.true)
 
 pub loop-j-preserved : goal.loop-j-preserved
 loop-j-preserved c =

@@ -12,10 +12,6 @@ pub idle-requires : goal.idle-requires
 idle-requires c =
     (whole_at c.loop-i.invariant.0 c.loop-i-test.true, stated_valid c.requires c.loop-i.i c.loop-i-test.true)
 
-pub loop-i-smaller : goal.loop-i-smaller
-loop-i-smaller c =
-    omega (arith, past_after 5 c.args.t.now c.loop-i.i (sized c.loop-i.invariant.0 c.loop-i-test.true), c.next-i.ensures, c.loop-i-test.true)
-
 pub loop-i-preserved : goal.loop-i-preserved
 loop-i-preserved c =
     rw c.next-i.ensures (later c.loop-i.invariant.0 (omega (arith, past_after 5 c.args.t.now c.loop-i.i (sized c.loop-i.invariant.0 c.loop-i-test.true))), going_on c.loop-i.invariant.1 _ _ c.idle.ensures (idle_next c.args.strings.now c.loop-i.invariant.0 c.loop-i-test.true))

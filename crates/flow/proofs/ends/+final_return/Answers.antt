@@ -1,7 +1,6 @@
-use native.Mathlib.Omega.{arith}
 use mathlib.Core.Path.{refl, sym, ◌∙◌}
 use lib.Dec.{eqb}
-use Rattle.tree.proofs.Laws.{later, ended, kids}
+use Rattle.tree.proofs.Laws.{later, kids}
 use Rattle.flow.proofs.EndsLaws.{ends_absent, ends_fail, ends_list, ends_sides, ends_other}
 use Rattle.flow.proofs.ends.+final_return.Goals as goal
 

@@ -5,10 +5,6 @@ use Rattle.flow.specs.Walks.{is_text}
 use Rattle.flow.proofs.Steps.{loads_past, loads_next, into_after}
 use Rattle.flow.proofs.loads.misplaced_load.Goals as goal
 
-pub loop-j-smaller : goal.loop-j-smaller
-loop-j-smaller c =
-    omega (arith, into_after 8 c.args.t.now c.loop-j.j (sized c.loop-j.invariant.0 c.loop-j-test.true), c.next-j.ensures, c.loop-j-test.true)
-
 pub loop-j-preserved : goal.loop-j-preserved
 loop-j-preserved c =
     rw (c.next-j.ensures, c.allows-allowed.ensures) (later c.loop-j.invariant.0 (omega (arith, into_after 8 c.args.t.now c.loop-j.j (sized c.loop-j.invariant.0 c.loop-j-test.true))), going_on c.loop-j.invariant.1 _ _ (c.load.ensures c.args.strings.now) (loads_next c.args.strings.now c.loop-j.allowed c.loop-j.invariant.0 c.loop-j-test.true))

@@ -3,7 +3,7 @@ use Prim.Native.Nat.{◌+◌, ℕ}
 use mathlib.Core.Path.{sym, ap, ◌∙◌}
 use mathlib.Core.Bool.{true, false}
 use Rattle.std.proofs.lemmas.Bool.{both_ways}
-use Rattle.tree.proofs.Laws.{rest, ended}
+use Rattle.tree.proofs.Laws.{rest}
 use Rattle.answer.proofs.Flat.{going_on, going_end, added_none, added_as}
 use Rattle.flow.specs.Walks.{is_name}
 use Rattle.flow.proofs.Steps.{below}
@@ -36,7 +36,7 @@ in_list-returns-else-aborts t c =
     let g = c.loop-aborts.invariant in
     elim c.else-aborts.branch [
       | in_list-else-aborts-via-then-aborts+else-j-e-2 w ↦ list_stopped (is_name c.args.fail) c.args.t.now c.args.i c.loop-aborts.j c.args.e c.loop-aborts.aborts w.if-aborts.true g.2 g.3
-      (added_as _ (unreached_none c.args.t.now c.loop-aborts.j c.args.e w.if-j-e-2.false) (added_none _))
+          (added_as _ (unreached_none c.args.t.now c.loop-aborts.j c.args.e w.if-j-e-2.false) (added_none _))
       | in_list-else-aborts-via-else-aborts w ↦ elim c.loop-aborts-test.branch [
         | in_list-then-loop-aborts-test+else-j-e u ↦ list_through (is_name c.args.fail) c.args.t.now c.args.i c.loop-aborts.j c.args.e c.loop-aborts.aborts w.if-aborts.false u.if-j-e.false g.2 g.3
         | in_list-else-loop-aborts-test u ↦ absurd (both_ways _ w.if-aborts.false u.loop-aborts-test.false)

@@ -1,8 +1,6 @@
-use native.Mathlib.Omega.{arith}
-use mathlib.Core.Path.{refl, sym, ◌∙◌}
-use Rattle.tree.proofs.Laws.{later, ended}
+use mathlib.Core.Path.{sym, ◌∙◌}
 use Rattle.answer.proofs.Flat.{added_none, added_as, added_both}
-use Rattle.flow.proofs.Tails.{tail_kind, tail_none, last_whole, last_none, last_some}
+use Rattle.flow.proofs.Tails.{tail_kind, tail_none, last_none, last_some}
 use Rattle.flow.proofs.redundant.+checking.Goals as goal
 
 pub check-returns-then-k : goal.check-returns-then-k
@@ -29,11 +27,6 @@ pub check-returns-else-k-5 : goal.check-returns-else-k-5
 check-returns-else-k-5 t c =
     let k = c.kind_at-k.ensures.0 in
     added_as _ (tail_none c.args.loops c.args.t.now c.args.i (λ z. c.if-k.false (k ∙ z)) (λ z. c.if-k-2.false (k ∙ z)) (λ z. c.if-k-3.false (k ∙ z)) (λ z. c.if-k-4.false (k ∙ z)) (λ z. c.if-k-5.false (k ∙ z))) (added_none _)
-
-pub last-check-requires : goal.last-check-requires
-last-check-requires t c =
-    let w = c.in-Some.ensures.within c.in-Some.j refl in
-    (omega (arith, c.decreases, w.0, ended (later c.requires.0 w.0) w.1), last_whole c.args.loops c.args.role c.requires.0 c.in-Some.ensures)
 
 pub last-returns-in-Some : goal.last-returns-in-Some
 last-returns-in-Some t c = added_as _ (last_some c.args.loops c.args.role c.in-Some.ensures) c.check.ensures

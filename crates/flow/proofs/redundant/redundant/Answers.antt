@@ -1,16 +1,9 @@
 use native.Mathlib.Omega.{arith}
 use mathlib.Core.Path.{sym}
 use Rattle.tree.proofs.Laws.{later}
-use Rattle.answer.proofs.Flat.{going, going_on, going_end, added_as}
-use Rattle.flow.proofs.Steps.{whole_at}
+use Rattle.answer.proofs.Flat.{going_on, going_end, added_as}
 use Rattle.flow.proofs.Tails.{redundant_next, redundant_past, below_all}
 use Rattle.flow.proofs.redundant.redundant.Goals as goal
-
-pub loop-i-init : goal.loop-i-init
-loop-i-init c = (later c.requires.0 (omega arith), going _ _)
-
-pub body-requires : goal.body-requires
-body-requires c = whole_at c.loop-i.invariant.0 c.loop-i-test.true
 
 pub loop-i-preserved : goal.loop-i-preserved
 loop-i-preserved c =

@@ -1,22 +1,8 @@
 use native.Mathlib.Omega.{arith}
 use Rattle.tree.specs.Forest.{node_head, node_spot}
-use Rattle.tree.proofs.Laws.{sized}
-use Rattle.answer.proofs.Flat.{going, going_on, going_end}
-use Rattle.flow.proofs.ReturnsLaws.{tidy_later, tidy_whole, step_some, bare_next, bare_past}
+use Rattle.answer.proofs.Flat.{going_on, going_end}
+use Rattle.flow.proofs.ReturnsLaws.{tidy_later, bare_next, bare_past}
 use Rattle.flow.proofs.returns.bare_returns.Goals as goal
-
-pub loop-j-init : goal.loop-j-init
-loop-j-init c = (c.requires, going _ _)
-
-pub bare_return-requires : goal.bare_return-requires
-bare_return-requires c = tidy_whole c.loop-j.invariant.0 c.loop-j-test.true
-
-pub next-j-requires : goal.next-j-requires
-next-j-requires c = omega (arith, c.loop-j.invariant.0.part.few, c.loop-j-test.true)
-
-pub loop-j-smaller : goal.loop-j-smaller
-loop-j-smaller c =
-    omega (arith, c.next-j.ensures, step_some c.args.t.now c.loop-j.j (sized c.loop-j.invariant.0.part c.loop-j-test.true), c.loop-j-test.true)
 
 pub loop-j-preserved : goal.loop-j-preserved
 loop-j-preserved c =

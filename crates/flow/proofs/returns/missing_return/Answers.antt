@@ -2,11 +2,7 @@ use mathlib.Core.Path.{sym, ◌∙◌}
 use Rattle.tree.specs.Forest.{node_head}
 use Rattle.answer.specs.Note.{rec_of, span_of, value_of, node_of}
 use Rattle.answer.proofs.Flat.{added_none, added_as}
-use Rattle.flow.proofs.ReturnsLaws.{whole_kids}
 use Rattle.flow.proofs.returns.missing_return.Goals as goal
-
-pub final_return-requires : goal.final_return-requires
-final_return-requires c = rw c.size_at.ensures.0 (whole_kids c.requires)
 
 pub returns-then-not-final_return : goal.returns-then-not-final_return
 unfolding rec_of span_of value_of node_of node_head

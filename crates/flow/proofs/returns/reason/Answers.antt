@@ -1,16 +1,11 @@
-use mathlib.Core.Path.{sym, ◌∙◌}
+use Rattle.std.proofs.Common.{rules, ◌+◌}
 use lib.Dec.{eqb}
-use Rattle.flow.proofs.ReturnsLaws.{reason_type, reason_return, body_tidy}
+use Rattle.tree.specs.Bytes.{size_at}
+use Rattle.tree.specs.Forest.{forest_of}
+use Rattle.flow.proofs.ReturnsLaws.{reason_either}
 use Rattle.flow.proofs.returns.reason.Goals as goal
-
-pub returns-in-Some : goal.returns-in-Some
-returns-in-Some c =
-    reason_type c.requires (λ v. eqb v c.args.none) c.in-Some.j (rw c.size_at.ensures.0 at c.in-Some.ensures)
-
-pub first_valued-requires : goal.first_valued-requires
-first_valued-requires c =
-    rw c.size_at-2.ensures.0 (body_tidy c.requires (rw c.size_at.ensures.0 at c.in_ok-b.ensures))
 
 pub returns : goal.returns
 returns c =
-    reason_return c.requires (λ v. eqb v c.args.none) (rw c.size_at.ensures.0 at c.in_default.ensures) (rw c.size_at.ensures.0 at c.in_ok-b.ensures) c.first_valued.result (rw c.size_at-2.ensures.0 at c.first_valued.ensures)
+    let below = forest_of c.args.t.now (c.args.i + 1) (c.args.i + size_at c.args.t.now c.args.i) in
+    reason_either (λ v. eqb v c.args.none) c.args.t.now below c.require_return_expression.result c.or_else.result (rw c.size_at.ensures.0 at c.require_return_expression.ensures) c.or_else.ensures (λ k. search rules)

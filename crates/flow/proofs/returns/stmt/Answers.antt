@@ -1,11 +1,8 @@
 use native.Mathlib.Omega.{arith}
 use lib.Dec.{eqb}
-use Rattle.answer.proofs.Flat.{going, going_on, going_end}
-use Rattle.flow.proofs.ReturnsLaws.{tidy_later, tidy_first, walk_next, walk_past}
+use Rattle.answer.proofs.Flat.{going_on, going_end}
+use Rattle.flow.proofs.ReturnsLaws.{tidy_later, walk_next, walk_past}
 use Rattle.flow.proofs.returns.stmt.Goals as goal
-
-pub loop-i-init : goal.loop-i-init
-loop-i-init c = (c.requires, going _ _)
 
 pub loop-i-preserved : goal.loop-i-preserved
 loop-i-preserved c =

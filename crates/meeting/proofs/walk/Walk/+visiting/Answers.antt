@@ -2,15 +2,14 @@
 use native.Mathlib.Omega.{arith}
 use mathlib.Core.Path.{refl}
 use Prim.Native.Nat.{ℕ}
-use mathlib.Core.Path.{◌≡◌, ap, ◌∙◌}
-use mathlib.Core.List.{List, map}
-use lib.ListN.{get_or, drop}
+use mathlib.Core.Path.{◌≡◌, ◌∙◌}
+use mathlib.Core.List.{List}
+use lib.ListN.{get_or}
 use Rattle.tree.specs.Bytes.{size_at}
-use Rattle.tree.specs.Forest.{forest_of}
 use Rattle.tree.specs.declared.kinds.Role.TheVariants.{Item}
 use Rattle.meeting.specs.declared.walk.Ask.TheVariants.{Of}
 use Rattle.tree.proofs.Laws.{sized, ended, rest}
-use Rattle.meeting.specs.Asked.{asked_as, below, run, step, at}
+use Rattle.meeting.specs.Asked.{below, step, at}
 use Rattle.meeting.specs.Meant.{meant, number}
 use Rattle.meeting.proofs.Walking.{whole_at, few, walk_starts, walk_goes, walk_ends, walk_none, walk_same, below_self, below_other, plan_next, plan_done, step_wanted, step_unwanted, visit_next, visit_done}
 use Rattle.meeting.proofs.walk.Walk.+visiting.Goals as goal

@@ -14,14 +14,14 @@ use Rattle.scope.specs.declared.Abort.TheVariants.{Function, Loop}
 use Rattle.tree.proofs.Laws.{rest, sized, ended}
 use Rattle.names.proofs.walk.Walk.+walking.Goals as goal
 
-pub assign-down-a-requires : goal.assign-down-a-requires
-assign-down-a-requires t c = (omega (arith, c.decreases), (c.requires.0, c.requires.1))
+pub assign-down-s-requires : goal.assign-down-s-requires
+assign-down-s-requires t c = (omega (arith, c.decreases), (c.requires.0, c.requires.1))
 
-pub assign-bind-a-requires : goal.assign-bind-a-requires
-assign-bind-a-requires t c = (node_zero c.requires.0, (goes_fits c.down-a.ensures))
+pub assign-bind-s-requires : goal.assign-bind-s-requires
+assign-bind-s-requires t c = (node_zero c.requires.0, (goes_fits c.down-s.ensures))
 
 pub assign-returns : goal.assign-returns
-assign-returns t c = then c.down-a.ensures (c.bind-a.ensures c.args.d)
+assign-returns t c = then c.down-s.ensures (c.bind-s.ensures c.args.d)
 
 pub block-down-requires : goal.block-down-requires
 block-down-requires t c = (omega (arith, c.decreases), (c.requires.4, c.requires.5))
@@ -55,28 +55,28 @@ block-cond-requires t c =
 pub block-returns : goal.block-returns
 block-returns t c = c.cond.ensures
 
-pub body-bind-a-requires : goal.body-bind-a-requires
-body-bind-a-requires t c = (node_zero c.requires.0, enter_fits c.enter.ensures c.requires.1)
+pub body-bind-inner-requires : goal.body-bind-inner-requires
+body-bind-inner-requires t c = (node_zero c.requires.0, enter_fits c.enter.ensures c.requires.1)
 
-pub body-down-b-requires : goal.body-down-b-requires
-body-down-b-requires t c = (omega (arith, c.decreases), (c.requires.0, goes_fits (c.bind-a.ensures c.args.d)))
+pub body-down-inner-requires : goal.body-down-inner-requires
+body-down-inner-requires t c = (omega (arith, c.decreases), (c.requires.0, goes_fits (c.bind-inner.ensures c.args.d)))
 
 pub body-leave-requires : goal.body-leave-requires
 body-leave-requires t c =
-    ((goes_fits c.down-b.ensures), leave_asks c.requires.1 c.enter.ensures (then (c.bind-a.ensures c.args.d) c.down-b.ensures))
+    ((goes_fits c.down-inner.ensures), leave_asks c.requires.1 c.enter.ensures (then (c.bind-inner.ensures c.args.d) c.down-inner.ensures))
 
 pub body-returns : goal.body-returns
 body-returns t c =
-    scopes_to (methods _) c.requires.1 c.enter.ensures (then (c.bind-a.ensures c.args.d) c.down-b.ensures) c.leave.ensures.0 c.leave.ensures.1
+    scopes_to (methods _) c.requires.1 c.enter.ensures (then (c.bind-inner.ensures c.args.d) c.down-inner.ensures) c.leave.ensures.0 c.leave.ensures.1
 
-pub bound-assign-a-requires : goal.bound-assign-a-requires
-bound-assign-a-requires t c = let b = first_below c.requires.1 (sym c.in-Some.is ∙ c.requires.0) in let e = below_ends c.requires.1 b.0 b.1 in (omega (arith, c.decreases, e, b.0), (below_node c.requires.1 b.0 b.1, c.requires.2))
+pub bound-assign-s-requires : goal.bound-assign-s-requires
+bound-assign-s-requires t c = let b = first_below c.requires.1 (sym c.in-Some.is ∙ c.requires.0) in let e = below_ends c.requires.1 b.0 b.1 in (omega (arith, c.decreases, e, b.0), (below_node c.requires.1 b.0 b.1, c.requires.2))
 
 pub bound-later-requires : goal.bound-later-requires
-bound-later-requires t c = let b = first_below c.requires.1 (sym c.in-Some.is ∙ c.requires.0) in (omega (arith, c.decreases), (b.0, b.1, c.requires.1, goes_fits c.assign-a.ensures))
+bound-later-requires t c = let b = first_below c.requires.1 (sym c.in-Some.is ∙ c.requires.0) in (omega (arith, c.decreases), (b.0, b.1, c.requires.1, goes_fits c.assign-s.ensures))
 
 pub bound-returns : goal.bound-returns
-bound-returns t c = goes_as (bound_there _ _ c.requires.1 (sym c.in-Some.is ∙ c.requires.0)) (regroup (then c.assign-a.ensures c.later.ensures))
+bound-returns t c = goes_as (bound_there _ _ c.requires.1 (sym c.in-Some.is ∙ c.requires.0)) (regroup (then c.assign-s.ensures c.later.ensures))
 
 pub branch-down-a-requires : goal.branch-down-a-requires
 branch-down-a-requires t c = (omega (arith, c.decreases), (c.requires.0, c.requires.1))
@@ -95,15 +95,15 @@ pub clause-returns-then-role_at : goal.clause-returns-then-role_at
 clause-returns-then-role_at t c =
     goes_as (clause_none _ _ _ (λ z. c.if-role_at.true (c.role_at.ensures.0 ∙ z))) (skips c.requires.1)
 
-pub clause-down-a-requires : goal.clause-down-a-requires
-clause-down-a-requires t c = (omega (arith, c.decreases), (c.requires.0, c.requires.1))
+pub clause-down-s-requires : goal.clause-down-s-requires
+clause-down-s-requires t c = (omega (arith, c.decreases), (c.requires.0, c.requires.1))
 
 pub clause-assign-requires : goal.clause-assign-requires
-clause-assign-requires t c = (omega (arith, c.decreases), (c.requires.0, (goes_fits c.down-a.ensures)))
+clause-assign-requires t c = (omega (arith, c.decreases), (c.requires.0, (goes_fits c.down-s.ensures)))
 
 pub clause-returns : goal.clause-returns
 clause-returns t c =
-    goes_as (clause_there _ _ _ (sym c.role_at.ensures.0 ∙ c.if-role_at.false)) (then c.down-a.ensures c.assign.ensures)
+    goes_as (clause_there _ _ _ (sym c.role_at.ensures.0 ∙ c.if-role_at.false)) (then c.down-s.ensures c.assign.ensures)
 
 pub comp-overflow_add-e : goal.comp-overflow_add-e
 comp-overflow_add-e t c = omega (arith, c.size_at.ensures.0, node_few c.requires.0, c.requires.0.part.few)
@@ -111,53 +111,53 @@ comp-overflow_add-e t c = omega (arith, c.size_at.ensures.0, node_few c.requires
 pub comp-overflow_add-c : goal.comp-overflow_add-c
 comp-overflow_add-c t c = omega (arith, node_few c.requires.0)
 
-pub comp-over-a-requires : goal.comp-over-a-requires
-comp-over-a-requires t c =
+pub comp-over-s-requires : goal.comp-over-s-requires
+comp-over-s-requires t c =
     (omega (arith, c.decreases), ((kid_as _ _ _ c.size_at.ensures.0 c.child_of-first.ensures), c.requires.0, c.requires.1))
 
-pub comp-rest-b-requires : goal.comp-rest-b-requires
-comp-rest-b-requires t c =
-    (omega (arith, c.decreases), ((kid_as _ _ _ c.size_at.ensures.0 c.child_of-first.ensures), c.requires.0, enter_fits c.enter.ensures (goes_fits c.over-a.ensures)))
+pub comp-rest-inner-requires : goal.comp-rest-inner-requires
+comp-rest-inner-requires t c =
+    (omega (arith, c.decreases), ((kid_as _ _ _ c.size_at.ensures.0 c.child_of-first.ensures), c.requires.0, enter_fits c.enter.ensures (goes_fits c.over-s.ensures)))
 
-pub comp-leave-b-requires : goal.comp-leave-b-requires
-comp-leave-b-requires t c =
-    ((goes_fits c.rest-b.ensures), leave_asks (goes_fits c.over-a.ensures) c.enter.ensures c.rest-b.ensures)
+pub comp-leave-requires : goal.comp-leave-requires
+comp-leave-requires t c =
+    ((goes_fits c.rest-inner.ensures), leave_asks (goes_fits c.over-s.ensures) c.enter.ensures c.rest-inner.ensures)
 
 pub comp-returns : goal.comp-returns
 comp-returns t c =
-    then c.over-a.ensures (scopes_to (methods _) (goes_fits c.over-a.ensures) c.enter.ensures c.rest-b.ensures c.leave-b.ensures.0 c.leave-b.ensures.1)
+    then c.over-s.ensures (scopes_to (methods _) (goes_fits c.over-s.ensures) c.enter.ensures c.rest-inner.ensures c.leave.ensures.0 c.leave.ensures.1)
 
-pub cond-down-a-requires : goal.cond-down-a-requires
-cond-down-a-requires t c = (omega (arith, c.decreases), (c.requires.3, c.requires.4))
+pub cond-down-s-requires : goal.cond-down-s-requires
+cond-down-s-requires t c = (omega (arith, c.decreases), (c.requires.3, c.requires.4))
 
 pub cond-side-requires : goal.cond-side-requires
-cond-side-requires t c = (omega (arith, c.decreases), (c.requires.3, (goes_fits c.down-a.ensures)))
+cond-side-requires t c = (omega (arith, c.decreases), (c.requires.3, (goes_fits c.down-s.ensures)))
 
 pub cond-returns-then-k : goal.cond-returns-then-k
-cond-returns-then-k t c = goes_as (node_if _ _ _ (sym c.requires.0 ∙ c.if-k.true)) (then c.down-a.ensures c.side.ensures)
+cond-returns-then-k t c = goes_as (node_if _ _ _ (sym c.requires.0 ∙ c.if-k.true)) (then c.down-s.ensures c.side.ensures)
 
 pub cond-branch-self-requires : goal.cond-branch-self-requires
-cond-branch-self-requires t c = (omega (arith, c.decreases), (c.requires.3, (goes_fits c.down-a.ensures)))
+cond-branch-self-requires t c = (omega (arith, c.decreases), (c.requires.3, (goes_fits c.down-s.ensures)))
 
 pub cond-returns-else-k : goal.cond-returns-else-k
 cond-returns-else-k t c =
-    goes_as (node_if_else _ _ _ (sym c.requires.0 ∙ ten_left c.requires.1 c.requires.2 c.if-k.false)) (then c.down-a.ensures c.branch-self.ensures)
+    goes_as (node_if_else _ _ _ (sym c.requires.0 ∙ ten_left c.requires.1 c.requires.2 c.if-k.false)) (then c.down-s.ensures c.branch-self.ensures)
 
-pub def-down-a-requires : goal.def-down-a-requires
-def-down-a-requires t c = (omega (arith, c.decreases), (c.requires.1, c.requires.2))
+pub def-down-s-requires : goal.def-down-s-requires
+def-down-s-requires t c = (omega (arith, c.decreases), (c.requires.1, c.requires.2))
 
-pub def-down-b-requires : goal.def-down-b-requires
-def-down-b-requires t c = (omega (arith, c.decreases), (c.requires.1, (goes_fits c.down-a.ensures)))
+pub def-down-s-requires-2 : goal.def-down-s-requires-2
+def-down-s-requires-2 t c = (omega (arith, c.decreases), (c.requires.1, (goes_fits c.down-s.ensures)))
 
-pub def-bind-n-requires : goal.def-bind-n-requires
-def-bind-n-requires t c = (node_zero c.requires.1, (goes_fits c.down-b.ensures))
+pub def-bind-s-requires : goal.def-bind-s-requires
+def-bind-s-requires t c = (node_zero c.requires.1, (goes_fits c.down-s-2.ensures))
 
 pub def-body-requires : goal.def-body-requires
-def-body-requires t c = (omega (arith, c.decreases), (c.requires.1, goes_fits (c.bind-n.ensures c.args.d)))
+def-body-requires t c = (omega (arith, c.decreases), (c.requires.1, goes_fits (c.bind-s.ensures c.args.d)))
 
 pub def-returns : goal.def-returns
 def-returns t c =
-    goes_as (node_def _ _ _ c.requires.0) (then c.down-a.ensures (then c.down-b.ensures (then (c.bind-n.ensures c.args.d) c.body.ensures)))
+    goes_as (node_def _ _ _ c.requires.0) (then c.down-s.ensures (then c.down-s-2.ensures (then (c.bind-s.ensures c.args.d) c.body.ensures)))
 
 pub down-overflow_add-e : goal.down-overflow_add-e
 down-overflow_add-e t c = omega (arith, c.size_at.ensures.0, node_few c.requires.0, c.requires.0.part.few)
@@ -172,8 +172,8 @@ down-visit-requires t c =
 pub down-returns : goal.down-returns
 down-returns t c = goes_as (down_as _ _ _ c.size_at.ensures.0 _ _) c.visit.ensures
 
-pub eval-down-a-requires : goal.eval-down-a-requires
-eval-down-a-requires t c = (omega (arith, c.decreases), (c.requires.1, c.requires.2))
+pub eval-down-s-requires : goal.eval-down-s-requires
+eval-down-s-requires t c = (omega (arith, c.decreases), (c.requires.1, c.requires.2))
 
 pub eval-overflow_add-e : goal.eval-overflow_add-e
 eval-overflow_add-e t c = omega (arith, c.size_at.ensures.0, node_few c.requires.1, c.requires.1.part.few)
@@ -183,11 +183,11 @@ eval-overflow_add-c t c = omega (arith, node_few c.requires.1)
 
 pub eval-returns-then-is_fail : goal.eval-returns-then-is_fail
 eval-returns-then-is_fail t c =
-    goes_as (node_expression _ _ _ c.requires.0) (then c.down-a.ensures (cond_true _ (sym (fail_as _ _ _ c.size_at.ensures.0 _ c.requires.1 c.is_fail.ensures) ∙ c.if-is_fail.true) _ _ (stop_to fails Function refl c.stop.ensures (goes_fits c.down-a.ensures))))
+    goes_as (node_expression _ _ _ c.requires.0) (then c.down-s.ensures (cond_true _ (sym (fail_as _ _ _ c.size_at.ensures.0 _ c.requires.1 c.is_fail.ensures) ∙ c.if-is_fail.true) _ _ (stop_to fails Function refl c.stop.ensures (goes_fits c.down-s.ensures))))
 
 pub eval-returns : goal.eval-returns
 eval-returns t c =
-    goes_as (node_expression _ _ _ c.requires.0) (then c.down-a.ensures (cond_false _ (sym (fail_as _ _ _ c.size_at.ensures.0 _ c.requires.1 c.is_fail.ensures) ∙ c.if-is_fail.false) _ _ (skips (goes_fits c.down-a.ensures))))
+    goes_as (node_expression _ _ _ c.requires.0) (then c.down-s.ensures (cond_false _ (sym (fail_as _ _ _ c.size_at.ensures.0 _ c.requires.1 c.is_fail.ensures) ∙ c.if-is_fail.false) _ _ (skips (goes_fits c.down-s.ensures))))
 
 pub expr-used-requires : goal.expr-used-requires
 expr-used-requires t c = (c.requires.3, omega (arith, node_few c.requires.2))
@@ -212,27 +212,27 @@ pub expr-returns : goal.expr-returns
 expr-returns t c =
     goes_as (node_other _ _ _ c.args.k (sym c.requires.0) c.requires.1 c.if-k.false c.if-k-2.false c.if-k-3.false c.if-k-4.false) c.down.ensures
 
-pub gets-down-a-requires : goal.gets-down-a-requires
-gets-down-a-requires t c = (omega (arith, c.decreases), (c.requires.1, c.requires.2))
+pub gets-down-s-requires : goal.gets-down-s-requires
+gets-down-s-requires t c = (omega (arith, c.decreases), (c.requires.1, c.requires.2))
 
-pub gets-down-b-requires : goal.gets-down-b-requires
-gets-down-b-requires t c = (omega (arith, c.decreases), (c.requires.1, (goes_fits c.down-a.ensures)))
+pub gets-down-s-requires-2 : goal.gets-down-s-requires-2
+gets-down-s-requires-2 t c = (omega (arith, c.decreases), (c.requires.1, (goes_fits c.down-s.ensures)))
 
 pub gets-assign-requires : goal.gets-assign-requires
-gets-assign-requires t c = (omega (arith, c.decreases), (c.requires.1, (goes_fits c.down-b.ensures)))
+gets-assign-requires t c = (omega (arith, c.decreases), (c.requires.1, (goes_fits c.down-s-2.ensures)))
 
 pub gets-returns : goal.gets-returns
 gets-returns t c =
-    goes_as (node_assign _ _ _ c.requires.0) (then c.down-a.ensures (then c.down-b.ensures c.assign.ensures))
+    goes_as (node_assign _ _ _ c.requires.0) (then c.down-s.ensures (then c.down-s-2.ensures c.assign.ensures))
 
-pub lambda-down-a-requires : goal.lambda-down-a-requires
-lambda-down-a-requires t c = (omega (arith, c.decreases), (c.requires.1, c.requires.2))
+pub lambda-down-s-requires : goal.lambda-down-s-requires
+lambda-down-s-requires t c = (omega (arith, c.decreases), (c.requires.1, c.requires.2))
 
 pub lambda-body-requires : goal.lambda-body-requires
-lambda-body-requires t c = (omega (arith, c.decreases), (c.requires.1, (goes_fits c.down-a.ensures)))
+lambda-body-requires t c = (omega (arith, c.decreases), (c.requires.1, (goes_fits c.down-s.ensures)))
 
 pub lambda-returns : goal.lambda-returns
-lambda-returns t c = goes_as (node_lambda _ _ _ c.requires.0) (then c.down-a.ensures c.body.ensures)
+lambda-returns t c = goes_as (node_lambda _ _ _ c.requires.0) (then c.down-s.ensures c.body.ensures)
 
 pub later-overflow_add-e : goal.later-overflow_add-e
 later-overflow_add-e t c = omega (arith, c.size_at.ensures.0, node_few c.requires.2, c.requires.2.part.few)
@@ -271,40 +271,40 @@ later-returns t c =
 pub loops-overflow_add-n : goal.loops-overflow_add-n
 loops-overflow_add-n t c = omega (arith, c.requires.1, node_few c.requires.2)
 
-pub loops-down-a-requires : goal.loops-down-a-requires
-loops-down-a-requires t c = (omega (arith, c.decreases), (c.requires.2, c.requires.3))
+pub loops-down-s-requires : goal.loops-down-s-requires
+loops-down-s-requires t c = (omega (arith, c.decreases), (c.requires.2, c.requires.3))
 
-pub loops-turn-a-requires : goal.loops-turn-a-requires
-loops-turn-a-requires t c =
-    (omega (arith, c.decreases), ((node_more c.requires.2 (c.args.d + 1) (omega (arith, c.requires.1))), (goes_fits c.down-a.ensures)))
+pub loops-turn-s-requires : goal.loops-turn-s-requires
+loops-turn-s-requires t c =
+    (omega (arith, c.decreases), ((node_more c.requires.2 (c.args.d + 1) (omega (arith, c.requires.1))), (goes_fits c.down-s.ensures)))
 
 pub loops-returns-then-n-gt5 : goal.loops-returns-then-n-gt5
 loops-returns-then-n-gt5 t c =
-    goes_as (node_for _ _ _ c.requires.0) (then c.down-a.ensures (loop_once c.if-n-gt5.true c.turn-a.ensures))
+    goes_as (node_for _ _ _ c.requires.0) (then c.down-s.ensures (loop_once c.if-n-gt5.true c.turn-s.ensures))
 
-pub loops-turn-a-requires-2 : goal.loops-turn-a-requires-2
-loops-turn-a-requires-2 t c =
-    (omega (arith, c.decreases), ((node_more c.requires.2 (c.args.d + 1) (omega (arith, c.requires.1))), c.turn-a.ensures.does.fits))
+pub loops-turn-s-requires-2 : goal.loops-turn-s-requires-2
+loops-turn-s-requires-2 t c =
+    (omega (arith, c.decreases), ((node_more c.requires.2 (c.args.d + 1) (omega (arith, c.requires.1))), c.turn-s.ensures.does.fits))
 
 pub loops-returns : goal.loops-returns
 loops-returns t c =
-    goes_as (node_for _ _ _ c.requires.0) (then c.down-a.ensures (loop_twice c.if-n-gt5.false c.turn-a.ensures c.turn-a-2.ensures))
+    goes_as (node_for _ _ _ c.requires.0) (then c.down-s.ensures (loop_twice c.if-n-gt5.false c.turn-s.ensures c.turn-s-2.ensures))
 
-pub modify-down-a-requires : goal.modify-down-a-requires
-modify-down-a-requires t c = (omega (arith, c.decreases), (c.requires.1, c.requires.2))
+pub modify-down-s-requires : goal.modify-down-s-requires
+modify-down-s-requires t c = (omega (arith, c.decreases), (c.requires.1, c.requires.2))
 
-pub modify-down-b-requires : goal.modify-down-b-requires
-modify-down-b-requires t c = (omega (arith, c.decreases), (c.requires.1, (goes_fits c.down-a.ensures)))
+pub modify-down-s-requires-2 : goal.modify-down-s-requires-2
+modify-down-s-requires-2 t c = (omega (arith, c.decreases), (c.requires.1, (goes_fits c.down-s.ensures)))
 
-pub modify-bind-x-requires : goal.modify-bind-x-requires
-modify-bind-x-requires t c = (node_zero c.requires.1, (goes_fits c.down-b.ensures))
+pub modify-bind-s-requires : goal.modify-bind-s-requires
+modify-bind-s-requires t c = (node_zero c.requires.1, (goes_fits c.down-s-2.ensures))
 
 pub modify-assign-requires : goal.modify-assign-requires
-modify-assign-requires t c = (omega (arith, c.decreases), (c.requires.1, goes_fits (c.bind-x.ensures c.args.d)))
+modify-assign-requires t c = (omega (arith, c.decreases), (c.requires.1, goes_fits (c.bind-s.ensures c.args.d)))
 
 pub modify-returns : goal.modify-returns
 modify-returns t c =
-    goes_as (node_modify _ _ _ c.requires.0) (then c.down-a.ensures (then c.down-b.ensures (then (c.bind-x.ensures c.args.d) c.assign.ensures)))
+    goes_as (node_modify _ _ _ c.requires.0) (then c.down-s.ensures (then c.down-s-2.ensures (then (c.bind-s.ensures c.args.d) c.assign.ensures)))
 
 pub one-expr-requires : goal.one-expr-requires
 one-expr-requires t c = (omega (arith, c.decreases), (c.kind_at-k.ensures.0, omega (arith, c.if-k-2.false), c.requires.0, c.requires.2))
@@ -321,34 +321,34 @@ over-down-requires t c = let b = first_below c.requires.1 (sym c.in-Some.is ∙ 
 pub over-returns : goal.over-returns
 over-returns t c = goes_as (over_there _ _ c.requires.1 (sym c.in-Some.is ∙ c.requires.0)) c.down.ensures
 
-pub rest-bound-a-requires : goal.rest-bound-a-requires
-rest-bound-a-requires t c = (omega (arith, c.decreases), (c.requires.0, c.requires.1, c.requires.2))
+pub rest-bound-s-requires : goal.rest-bound-s-requires
+rest-bound-s-requires t c = (omega (arith, c.decreases), (c.requires.0, c.requires.1, c.requires.2))
 
-pub rest-down-b-requires : goal.rest-down-b-requires
-rest-down-b-requires t c = (omega (arith, c.decreases), (c.requires.1, (goes_fits c.bound-a.ensures)))
+pub rest-down-s-requires : goal.rest-down-s-requires
+rest-down-s-requires t c = (omega (arith, c.decreases), (c.requires.1, (goes_fits c.bound-s.ensures)))
 
 pub rest-down-requires : goal.rest-down-requires
-rest-down-requires t c = (omega (arith, c.decreases), (c.requires.1, (goes_fits c.down-b.ensures)))
+rest-down-requires t c = (omega (arith, c.decreases), (c.requires.1, (goes_fits c.down-s.ensures)))
 
 pub rest-returns : goal.rest-returns
-rest-returns t c = then c.bound-a.ensures (then c.down-b.ensures c.down.ensures)
+rest-returns t c = then c.bound-s.ensures (then c.down-s.ensures c.down.ensures)
 
-pub ret-down-a-requires : goal.ret-down-a-requires
-ret-down-a-requires t c = (omega (arith, c.decreases), (c.requires.1, c.requires.2))
+pub ret-down-s-requires : goal.ret-down-s-requires
+ret-down-s-requires t c = (omega (arith, c.decreases), (c.requires.1, c.requires.2))
 
 pub ret-returns : goal.ret-returns
-ret-returns t c = return_node _ _ _ c.requires.0 c.down-a.ensures c.stop.ensures
+ret-returns t c = return_node _ _ _ c.requires.0 c.down-s.ensures c.stop.ensures
 
 pub side-down-a-requires : goal.side-down-a-requires
 side-down-a-requires t c = (omega (arith, c.decreases), (c.requires.0, c.requires.1))
 
 pub side-join-requires : goal.side-join-requires
 side-join-requires t c =
-    (back_fits c.back-b.ensures c.requires.1 (goes_fits c.down-a.ensures) c.down-a.ensures.does.kept).settings
+    (back_fits c.back.ensures c.requires.1 (goes_fits c.down-a.ensures) c.down-a.ensures.does.kept).settings
 
 pub side-returns : goal.side-returns
 side-returns t c =
-    sides_to (methods _) c.requires.1 c.down-a.ensures c.back-b.ensures (skips (back_fits c.back-b.ensures c.requires.1 (goes_fits c.down-a.ensures) c.down-a.ensures.does.kept)) c.join.ensures
+    sides_to (methods _) c.requires.1 c.down-a.ensures c.back.ensures (skips (back_fits c.back.ensures c.requires.1 (goes_fits c.down-a.ensures) c.down-a.ensures.does.kept)) c.join.ensures
 
 pub step-one-requires : goal.step-one-requires
 step-one-requires t c = (omega (arith, c.decreases), (c.requires.0, c.requires.1, c.requires.2))
@@ -390,19 +390,19 @@ pub stmt-returns : goal.stmt-returns
 stmt-returns t c =
     goes_as (node_statement _ _ _ c.args.k (sym c.requires.0) c.requires.1 c.if-k-5.false c.if-k-6.false c.if-k.false c.if-k-2.false c.if-k-3.false c.if-k-4.false) c.down.ensures
 
-pub turn-assign-x-requires : goal.turn-assign-x-requires
-turn-assign-x-requires t c = (omega (arith, c.decreases), (c.requires.0, c.requires.1))
+pub turn-assign-a-requires : goal.turn-assign-a-requires
+turn-assign-a-requires t c = (omega (arith, c.decreases), (c.requires.0, c.requires.1))
 
 pub turn-down-a-requires : goal.turn-down-a-requires
-turn-down-a-requires t c = (omega (arith, c.decreases), (c.requires.0, (goes_fits c.assign-x.ensures)))
+turn-down-a-requires t c = (omega (arith, c.decreases), (c.requires.0, (goes_fits c.assign-a.ensures)))
 
-pub turn-join-j-requires : goal.turn-join-j-requires
-turn-join-j-requires t c =
-    (back_fits c.back-b.ensures c.requires.1 (goes_fits c.down-a.ensures) (regroup (then c.assign-x.ensures c.down-a.ensures)).does.kept).settings
+pub turn-join-requires : goal.turn-join-requires
+turn-join-requires t c =
+    (back_fits c.back.ensures c.requires.1 (goes_fits c.down-a.ensures) (regroup (then c.assign-a.ensures c.down-a.ensures)).does.kept).settings
 
 pub turn-returns : goal.turn-returns
 turn-returns t c =
-    turns_to (methods _) c.requires.1 (regroup (then c.assign-x.ensures c.down-a.ensures)) c.back-b.ensures c.join-j.ensures c.unlooped.ensures
+    turns_to (methods _) c.requires.1 (regroup (then c.assign-a.ensures c.down-a.ensures)) c.back.ensures c.join.ensures c.unlooped.ensures
 
 pub visit-loop-c-init : goal.visit-loop-c-init
 visit-loop-c-init t c = (omega arith, c.requires.0, c.requires.2, refl, λ v y g. g)
