@@ -29,9 +29,12 @@ module _ {t : List ℕ} {e : ℕ} {P : ℕ → Type 0} where
     along_at = (omega (arith, g.next.within, w.ends), rw (g.here) w.so)
 
     -- and on to the next
+    pub along_next : Next t e j b.at
+    along_next = rw (w.same, w.ends) at (g.next)
+
     pub along_on : {Q : ℕ → Type 0} → (Next t e j b.at → P j → Q b.at) → Along t e b Q
     along_on f =
-        record { same = g.same ∙ w.same; ends = g.ends ∙ w.ends; so = f (rw (w.same, w.ends) at (g.next)) along_at.1 }
+        record { same = g.same ∙ w.same; ends = g.ends ∙ w.ends; so = f along_next along_at.1 }
 
 -- among whole subtrees the next sibling is behind node j and what is below it
 pub next_at : {t : List ℕ} {e j n : ℕ} → Next t e j n → Part t j e → n ≡ j + size_at t j

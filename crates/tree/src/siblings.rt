@@ -19,6 +19,15 @@ pub fn siblings(t: &[u8], i: usize, e: usize) -> SiblingWalk<'_>
     SiblingWalk { t, at: i, end: e }
 }
 
+impl SiblingWalk<'_> {
+    // The node where the walk stands: the sibling that comes next, or the end.
+    pub fn at(&self) -> usize
+        ensures { result ≡ self.now.at }
+    {
+        self.at
+    }
+}
+
 impl Iterator for SiblingWalk<'_> {
     type Item = usize;
 
