@@ -1,6 +1,6 @@
 use native.Mathlib.Omega.{arith}
 use Prim.Native.Nat.{◌+◌, ℕ}
-use mathlib.Core.Path.{sym, ap, ◌∙◌}
+use mathlib.Core.Path.{refl, sym, ap, ◌∙◌}
 use mathlib.Core.Bool.{true, false}
 use Rattle.std.proofs.lemmas.Bool.{both_ways}
 use Rattle.tree.proofs.Laws.{sized, ended, first}
@@ -8,7 +8,7 @@ use Rattle.tree.proofs.Walked.{walk_start, walk_at, walk_on, walk_end}
 use Rattle.answer.proofs.Flat.{going, going_on, going_end, added_none, added_as}
 use Rattle.flow.specs.Walks.{is_name}
 use Rattle.flow.proofs.Steps.{below}
-use Rattle.flow.proofs.Reaching.{walked_as, walked_still, walked_two, here_list, here_sides, here_fails, here_stops, each_walked, list_again, each_next, each_past, list_stopped, list_through, side_there, side_absent, side_whole, side_low, side_ends, unreached_some, unreached_none}
+use Rattle.flow.proofs.Reaching.{walked_as, walked_still, walked_two, here_list, here_sides, here_fails, here_stops, each_walked, list_again, each_next, each_past, list_stopped, list_done, side_there, side_absent, side_whole, side_low, side_ends, unreached_some}
 use Rattle.flow.proofs.reach.+reaching.Goals as goal
 
 pub each-loop-j-init : goal.each-loop-j-init
@@ -31,7 +31,7 @@ each-returns t c =
 
 pub in_list-loop-j-init : goal.in_list-loop-j-init
 in_list-loop-j-init t c =
-    walk_start c.into_iter-j-iterator.ensures.into_iter_gives c.siblings-j-items.ensures c.requires.0 ?
+    walk_start c.into_iter-j-iterator.ensures.into_iter_gives c.siblings-j-items.ensures c.requires.0 (omega arith, going _ _, refl)
 
 pub in_list-reachable-aborts-requires : goal.in_list-reachable-aborts-requires
 in_list-reachable-aborts-requires t c =
@@ -52,7 +52,7 @@ in_list-returns-then-aborts t c =
 pub in_list-returns : goal.in_list-returns
 in_list-returns t c =
     let h = walk_end c.loop-j.invariant c.in-None.ensures.steps in
-    ?
+    list_done (is_name c.args.fail) c.args.t.now c.args.i c.loop-j.j-iterator.at c.args.e c.loop-j.aborts h.0 h.1.1 h.1.2
 
 pub reachable-returns-then-k : goal.reachable-returns-then-k
 reachable-returns-then-k t c =
