@@ -21,6 +21,7 @@ use tree::bytes::{kind_at, role_at, size_at, value_at};
 use tree::children::child_of;
 use tree::keys::{key_numbers, like};
 use tree::kinds::{Kind, Role};
+use tree::siblings::siblings;
 use tree::{Facts, Likeness, Mode, judge};
 
 // A walk over a file's nodes, with the numbers that stand for its keys.
@@ -61,13 +62,10 @@ impl Walk<'_> {
         ensures { clashes self.now.numbers.now self.now.t.now i j ≡ doubled self.now.numbers.now self.now.t.now result j }
     {
         let mut old = None;
-        let mut m = i;
-        // Kept: each step is the size that is read at m, and no range steps so (d).
-        while m < j {
+        for m in siblings(self.t, i, j) {
             if self.is_equal_key(m, j) {
                 old = Some(m);
             }
-            m += size_at(self.t, m);
         }
         old
     }
@@ -98,11 +96,8 @@ impl Walk<'_> {
         requires { Part self.now.t.now i e × (i ≤ e) }
         ensures { Added sheet.old sheet.new (doubles (like_by self.now.numbers.now) [] (keys (forest_of self.now.t.now i e))) }
     {
-        let mut j = i;
-        // Kept: each step is the size that is read at j, and no range steps so (d).
-        while j < e {
+        for j in siblings(self.t, i, e) {
             self.clash(i, j, sheet);
-            j += size_at(self.t, j);
         }
     }
 

@@ -8,21 +8,9 @@ ghost use Rattle.tree.specs.Forest.{forest_of};
 ghost use Rattle.tree.specs.code.Part.{Part};
 ghost use Rattle.rules.specs.Order.{fail_named, fail_called};
 
-use tree::bytes::{kind_at, role_at, size_at, value_at};
+use tree::bytes::{kind_at, role_at, value_at};
 use tree::kinds::{Kind, Role};
-
-// The sibling after node j, of siblings that end at e.
-fn next(t: &[u8], j: usize, e: usize) -> usize
-    requires { j < e }
-    ensures { (j < result) × (result ≤ e) × (Part t.now j e → result ≡ j + size_at t.now j) }
-{
-    let size = size_at(t, j);
-    if size == 0 || e - j <= size {
-        e
-    } else {
-        j + size
-    }
-}
+use tree::siblings::siblings;
 
 // Node j is a function that is the identifier fail.
 fn is_named(t: &[u8], fail: usize, j: usize) -> bool
@@ -37,13 +25,10 @@ fn is_named(t: &[u8], fail: usize, j: usize) -> bool
 fn names_fail(t: &[u8], fail: usize, i: usize, e: usize) -> bool
     ensures { Part t.now i e → result ≡ fail_named (λ v. eqb v fail) (forest_of t.now i e) }
 {
-    let mut j = i;
-    // Kept: the step is the size that node j has, which no range counts by.
-    while j < e {
+    for j in siblings(t, i, e) {
         if is_named(t, fail, j) {
             return true;
         }
-        j = next(t, j, e);
     }
     false
 }
@@ -62,14 +47,12 @@ fn is_call(t: &[u8], fail: usize, j: usize, e: usize) -> bool
 pub fn is_fail(t: &[u8], fail: usize, i: usize, e: usize) -> bool
     ensures { Part t.now i e → result ≡ fail_called (λ v. eqb v fail) (forest_of t.now i e) }
 {
-    let mut j = i;
-    // Kept: the step is the size that node j has, which no range counts by.
-    while j < e {
-        let n = next(t, j, e);
-        if is_call(t, fail, j, n) {
+    let mut rest = siblings(t, i, e);
+    // What is below node j ends where the rest begins.
+    while let Some(j) = rest.next() {
+        if is_call(t, fail, j, rest.at()) {
             return true;
         }
-        j = n;
     }
     false
 }

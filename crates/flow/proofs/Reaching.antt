@@ -200,3 +200,11 @@ module _ (t : List ℕ) (j e : ℕ) where
 
   pub unreached_none : e ≤ j → after_stop (forest_of t j e) ≡ []
   unreached_none h = rw (forest_none t j e h)
+
+-- no sibling is left, whether or not the last one aborts
+pub list_done : (F : ℕ → Bool) (t : List ℕ) (i j e : ℕ) {s₀ s : Sheet} (b : Bool) → e ≤ j
+    → Going s₀ (reached F in_list (forest_of t i e)).recs s (left F b (forest_of t j e)).recs
+    → (left F b (forest_of t j e)).stops ≡ (reached F in_list (forest_of t i e)).stops
+    → Walked s₀ s b (reached F in_list (forest_of t i e))
+list_done F t i j e true h g q = list_stopped F t i j e true refl g q (rw (unreached_none t j e h) (added_none _))
+list_done F t i j e false h g q = list_through F t i j e false refl h g q

@@ -13,6 +13,7 @@ use rules::Code;
 use tree::bytes::{kind_at, size_at};
 use tree::children::child_of;
 use tree::kinds::{Kind, Role};
+use tree::siblings::siblings;
 
 fn stops(k: usize) -> bool
     ensures { result ≡ (eqb k 1 || (eqb k 2 || eqb k 4)) }
@@ -50,14 +51,12 @@ fn in_list(t: &[u8], fail: usize, i: usize, e: usize, sheet: &mut Sheet<'_>) -> 
     ensures { Walked sheet.old sheet.new result (reached (is_name fail) in_a_list (forest_of t.now i e)) }
 {
     let mut aborts = false;
-    let mut j = i;
-    // Kept: the step is the size that node j has, which no range counts by.
-    while !aborts && j < e {
+    for j in siblings(t, i, e) {
+        if aborts {
+            sheet.put_plainly(t, Code::Unreachable as u32, j);
+            return true;
+        }
         aborts = reachable(t, fail, j, sheet);
-        j += size_at(t, j);
-    }
-    if aborts && j < e {
-        sheet.put_plainly(t, Code::Unreachable as u32, j);
     }
     aborts
 }
@@ -68,11 +67,8 @@ fn each(t: &[u8], fail: usize, i: usize, e: usize, sheet: &mut Sheet<'_>)
     requires { Part t.now i e × (i ≤ e) }
     ensures { Added sheet.old sheet.new (reached (is_name fail) each_one (forest_of t.now i e)).recs }
 {
-    let mut j = i;
-    // Kept: the step is the size that node j has, which no range counts by.
-    while j < e {
+    for j in siblings(t, i, e) {
         reachable(t, fail, j, sheet);
-        j += size_at(t, j);
     }
 }
 

@@ -13,6 +13,7 @@ use rules::{Allowance, Code};
 use tree::bytes::{kind_at, role_at, size_at, value_at};
 use tree::children::child_of;
 use tree::kinds::{Kind, Role};
+use tree::siblings::siblings;
 
 // How a name was first defined: at which node, and whether x = x was already free.
 #[derive(Clone, Copy)]
@@ -191,11 +192,8 @@ impl Defined {
         requires { Part t.now i e × Low t.now e }
         ensures { Does t.now self.old sheet.old (defined_names role (forest_of t.now i e)) self.new sheet.new }
     {
-        let mut j = i;
-        // Kept: each step is the size that is read at j, and no range steps so (d).
-        while j < e {
+        for j in siblings(t, i, e) {
             self.lvalue(t, role, j, sheet);
-            j += size_at(t, j);
         }
     }
 

@@ -11,6 +11,7 @@ ghost use Rattle.meeting.specs.Walked.{Walked};
 use crate::{kinds, meet};
 use tree::bytes::{kind_at, role_at, size_at};
 use tree::kinds::Role;
+use tree::siblings::siblings;
 
 // What is asked of a node's children, or of the node itself.
 #[derive(Clone, Copy, Debug, PartialEq, Eq)]
@@ -139,12 +140,9 @@ impl<'a, 'b> Walk<'a, 'b> {
         ensures { Walked self.old self.new (asked_as (meant first) (forest_of self.old.t.now i e)) }
     {
         let mut ask = first;
-        let mut c = i;
-        // Kept: c goes by the sizes that it reads, and what is asked changes along the way.
-        while c < e {
+        for c in siblings(self.t, i, e) {
             self.step(ask, c);
             ask = ask.after(role_at(self.t, c));
-            c += size_at(self.t, c);
         }
     }
 

@@ -14,6 +14,7 @@ use scope::{Abort, Scope};
 use tree::bytes::{kind_at, role_at, size_at};
 use tree::children::child_of;
 use tree::kinds::{Kind, Role};
+use tree::siblings::siblings;
 
 // How deep a for may lie in others and still go two rounds.
 const TWICE: usize = 5;
@@ -69,11 +70,8 @@ impl Walk<'_> {
         requires { Part self.now.t.now i e × (d ≤ i) × Fits w.old s }
         ensures { Goes self.now.t.now d (visit_of self.now.t.now self.now.fail (want_of wanted) i e) w.old s w.new result }
     {
-        let mut c = i;
-        // Kept: each step is as long as the node itself says, so no range has these numbers.
-        while c < e {
+        for c in siblings(self.t, i, e) {
             s = self.step(c, wanted, d, w, s);
-            c += size_at(self.t, c);
         }
         s
     }
@@ -410,11 +408,8 @@ impl Walk<'_> {
         ensures { Goes self.now.t.now d (clauses_of self.now.t.now self.now.fail (x + size_at self.now.t.now x) (c + size_at self.now.t.now c)) w.old s w.new result }
     {
         let e = c + size_at(self.t, c);
-        let mut i = x + size_at(self.t, x);
-        // Kept: each step is as long as the node itself says, so no range has these numbers.
-        while i < e {
+        for i in siblings(self.t, x + size_at(self.t, x), e) {
             s = self.clause(i, d, w, s);
-            i += size_at(self.t, i);
         }
         s
     }
@@ -440,11 +435,8 @@ impl Walk<'_> {
         ensures { (d : ℕ) → Goes self.now.t.now d (pick (used_by binding) (node_use self.now.t.now (number role) c) (node_bind self.now.t.now (number role) c)) w.old s w.new result }
     {
         let e = c + size_at(self.t, c);
-        let mut i = c + 1;
-        // Kept: each step is as long as the node itself says, so no range has these numbers.
-        while i < e {
+        for i in siblings(self.t, c + 1, e) {
             s = self.bind_one(i, role, binding, w, s);
-            i += size_at(self.t, i);
         }
         s
     }

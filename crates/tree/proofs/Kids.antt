@@ -10,6 +10,7 @@ use lib.Dec.{eqb}
 use borrow.Author.Tests.{lt-ltb, le-ltb, eq-eqb, ne_eqb}
 use Rattle.tree.specs.Bytes.{size_at, role_at, kind_at}
 use Rattle.tree.specs.Children.{slot_of, in_class}
+use Rattle.tree.specs.code.Siblings.{Next}
 use Rattle.tree.specs.code.Kids.{kids_in, kids_from, Sized, kids_stand, of_role, filled, kids_filled, paired, kids_for_first}
 
 kids_none : (k : ℕ) (t : List ℕ) (c e : ℕ) → e ≤ c → kids_in k t c e ≡ []
@@ -38,6 +39,14 @@ kids_next t c e s h =
     let z = s c h in
     kids_enough (e - c) (suc (e - c)) t c e s (omega arith) (omega arith) ∙ kids_step (e - c) t c e h
     ∙ ap (λ (x : List ℕ). c ∷ x) (kids_enough (e - c) (e - (c + size_at t c)) t (c + size_at t c) e s (omega arith) (omega arith))
+
+-- where the walk over siblings goes on, past the end or not
+pub kids_on : {t : List ℕ} {c e n : ℕ} → Sized t e → Next t e c n → kids_from t n e ≡ kids_from t (c + size_at t c) e
+kids_on {t} {c} {e} {n} s x = go (dec_lt e (c + size_at t c))
+  where
+    go : Dec (e < c + size_at t c) → kids_from t n e ≡ kids_from t (c + size_at t c) e
+    go (yes h) = rw (x.past (omega arith), kids_end t e e (omega arith)) (sym (kids_end t (c + size_at t c) e (omega arith)))
+    go (no h) = rw (x.on (s c x.within) (omega arith)) refl
 
 module _ (t : List ℕ) (k c e : ℕ) (s : Sized t e) (h : c < e) where
   pub stand_no : in_class (slot_of k (role_at t c)).class (kind_at t c) ≡ false → kids_stand t k (kids_from t c e) ≡ false

@@ -45,3 +45,4 @@ pub mod Releases
 pub mod FirstChild
 pub mod Judges
 pub mod Sides
+pub mod Walked

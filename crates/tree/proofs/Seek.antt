@@ -7,6 +7,7 @@ use mathlib.Core.List.{List}
 use borrow.Author.Tests.{lt-ltb, le-ltb, eq-eqb, ne_eqb}
 use Rattle.tree.specs.Bytes.{role_at, size_at}
 use Rattle.tree.specs.code.Find.{child_in, child_of}
+use Rattle.tree.specs.code.Siblings.{Next}
 
 module _ (t : List ℕ) (r : ℕ) where
   is_role : (x : ℕ) → Dec (x ≡ r)
@@ -78,3 +79,12 @@ module _ (t : List ℕ) (r : ℕ) where
           one (e - i) (e - i - 1) (omega arith)
           ∙ in_enough (e - i - 1) (e - (i + size_at t i)) (i + size_at t i) e (omega arith) (omega arith)
       go (no z) = let s : i + size_at t i ≡ i = omega arith in rw s
+
+  -- where the walk over siblings goes on
+  pub seek_on : {i e n : ℕ} → Next t e i n → (role_at t i ≡ r → ⊥) → child_of t r i e ≡ child_of t r n e
+  seek_on {i} {e} {n} x q = go (dec_lt 0 (size_at t i)) (dec_lt e (i + size_at t i))
+    where
+      go : Dec (0 < size_at t i) → Dec (e < i + size_at t i) → child_of t r i e ≡ child_of t r n e
+      go (no z) d = rw (x.stuck (omega arith)) (seek_zero i e q (omega arith) ∙ sym (seek_past e e (omega arith)))
+      go (yes z) (yes h) = rw (x.past (omega arith)) (seek_next i e x.within q ∙ seek_past (i + size_at t i) e (omega arith) ∙ sym (seek_past e e (omega arith)))
+      go (yes z) (no h) = rw (x.on z (omega arith)) (seek_next i e x.within q)

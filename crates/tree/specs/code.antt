@@ -11,3 +11,4 @@ pub mod Halving
 pub mod Numbers
 pub mod Samples
 pub mod Kinds
+pub mod Siblings

@@ -11,6 +11,7 @@ ghost use Rattle.tree.specs.code.Stages.{None6, Judges};
 use crate::Refusal;
 use crate::bytes::{kind_at, role_at, size_at};
 use crate::kinds::{Kind, Role};
+use crate::siblings::siblings;
 
 // The classes of kinds; then those of a def's name, which is one kind, and of a place where nothing may stand.
 #[derive(Clone, Copy)]
@@ -160,7 +161,6 @@ fn stands(c: usize, k: usize) -> bool
 }
 
 // The children of a node: whole subtrees, from node `from` up to `end`.
-// Kept: loops over them that step by the sizes that they read.
 #[derive(Clone, Copy)]
 struct Kids<'a> {
     t: &'a [u8],
@@ -174,12 +174,10 @@ impl Kids<'_> {
     fn all_stand(&self, k: usize) -> bool
         ensures { result ≡ kids_stand self.now.t.now k (kids_from self.now.t.now self.now.from self.now.end) }
     {
-        let mut c = self.from;
-        while c < self.end {
+        for c in siblings(self.t, self.from, self.end) {
             if !stands(slot_class(k, role_at(self.t, c)), kind_at(self.t, c)) {
                 return false;
             }
-            c += size_at(self.t, c);
         }
         true
     }
@@ -188,12 +186,10 @@ impl Kids<'_> {
         ensures { result ≡ of_role self.now.t.now r (kids_from self.now.t.now self.now.from self.now.end) }
     {
         let mut m = 0;
-        let mut c = self.from;
-        while c < self.end {
+        for c in siblings(self.t, self.from, self.end) {
             if role_at(self.t, c) == r {
                 m += 1;
             }
-            c += size_at(self.t, c);
         }
         m
     }
@@ -229,13 +225,11 @@ impl Kids<'_> {
     {
         let (key, value) = (Role::Key as usize, Role::Expression as usize);
         let mut due = key;
-        let mut c = self.from;
-        while c < self.end {
+        for c in siblings(self.t, self.from, self.end) {
             if role_at(self.t, c) != due {
                 return false;
             }
             due = if due == key { value } else { key };
-            c += size_at(self.t, c);
         }
         due == key
     }
@@ -243,12 +237,10 @@ impl Kids<'_> {
     fn for_first(&self) -> bool
         ensures { result ≡ kids_for_first self.now.t.now (kids_from self.now.t.now self.now.from self.now.end) }
     {
-        let mut c = self.from;
-        while c < self.end {
+        for c in siblings(self.t, self.from, self.end) {
             if role_at(self.t, c) == Role::Item as usize {
                 return kind_at(self.t, c) == Kind::ForClause as usize;
             }
-            c += size_at(self.t, c);
         }
         true
     }
@@ -311,16 +303,10 @@ pub(crate) fn check_children(t: &[u8], n: usize, nv: usize) -> Result<(), Refusa
 pub fn child_of(t: &[u8], role: usize, from: usize, e: usize) -> Option<usize>
     ensures { result ≡ first_child t.now role from e }
 {
-    let mut i = from;
-    while i < e {
+    for i in siblings(t, from, e) {
         if role_at(t, i) == role {
             return Some(i);
         }
-        let size = size_at(t, i);
-        if size == 0 || e - i <= size {
-            return None;
-        }
-        i += size;
     }
     None
 }

@@ -23,6 +23,7 @@ pub mod keys;
 pub mod kinds;
 pub mod lookup;
 mod nodes;
+pub mod siblings;
 mod values;
 
 // What a valid file says of itself.

@@ -1,13 +1,26 @@
+use mathlib.Core.Path.{refl, ◌∙◌}
+use native.Mathlib.Omega.{arith}
+use Rattle.tree.proofs.Walked.{next_at, along_start, along_at, along_next, along_on, along_end}
 use Rattle.fail.proofs.Laws.{called_end, called_here, called_next}
 use Rattle.fail.proofs.is_fail.Goals as goal
 
+pub loop-j-init : goal.loop-j-init
+loop-j-init c = along_start refl c.siblings-rest.ensures (λ p. (p, refl))
+
+pub is_call-requires : goal.is_call-requires
+is_call-requires c = let x = along_next c.loop-j.invariant c.in-Some.ensures.steps in omega (arith, x.further, c.at.ensures)
+
 pub returns-then-is_call : goal.returns-then-is_call
 returns-then-is_call c =
-    called_here c.args.fail c.next-n.ensures.2 c.is_call.ensures c.loop-j.invariant c.loop-j-test.true c.if-is_call.true
+    let h = along_at c.loop-j.invariant c.in-Some.ensures.steps in
+    let x = along_next c.loop-j.invariant c.in-Some.ensures.steps in
+    called_here c.args.fail (λ p. c.at.ensures ∙ next_at x p) c.is_call.ensures h.1 h.0 c.if-is_call.true
 
 pub loop-j-preserved : goal.loop-j-preserved
 loop-j-preserved c =
-    called_next c.args.fail c.next-n.ensures.2 c.is_call.ensures c.loop-j.invariant c.loop-j-test.true c.if-is_call.false
+    along_on c.loop-j.invariant c.in-Some.ensures.steps (λ x h.
+      rw (c.at.ensures) at (called_next c.args.fail (λ p. c.at.ensures ∙ next_at x p) c.is_call.ensures h x.within c.if-is_call.false))
 
 pub returns : goal.returns
-returns c = called_end c.args.fail c.loop-j.invariant c.loop-j-test.false
+returns c =
+    let h = along_end c.loop-j.invariant c.in_default.ensures.steps in called_end c.args.fail h.1 h.0

@@ -1,24 +1,22 @@
-use Rattle.tree.proofs.Laws.{rest}
 use mathlib.Core.Path.{sym, ◌∙◌}
-use Rattle.dubious.proofs.Steps.{scan_hit, scan_over, scan_end}
+use Rattle.tree.proofs.Walked.{walk_start, walk_end, walk_on}
+use Rattle.dubious.proofs.Steps.{scan_start, scan_hit, scan_over, scan_end}
 use Rattle.dubious.proofs.Walk.previous.Goals as goal
-use Rattle.dubious.proofs.Walk.previous.Goals.{then-is_equal_key, else-is_equal_key}
+
+pub loop-m-init : goal.loop-m-init
+loop-m-init c =
+    walk_start c.into_iter-m-iterator.ensures.into_iter_gives c.siblings-m-items.ensures c.requires
+      (scan_start c.args.self.now.numbers.now c.args.self.now.t.now c.args.j c.args.i)
+
+pub loop-m-preserved-then-is_equal_key : goal.loop-m-preserved-then-is_equal_key
+loop-m-preserved-then-is_equal_key c =
+    walk_on c.loop-m.invariant c.in-Some.ensures.steps (λ p lt s. scan_hit _ _ _ _ _ _ p lt s (sym c.if-is_equal_key.true ∙ c.is_equal_key.ensures))
 
 pub loop-m-preserved : goal.loop-m-preserved
 loop-m-preserved c =
-    let ns = c.args.self.now.numbers.now in
-    let t = c.args.self.now.t.now in
-    let p = c.loop-m.invariant.0 in
-    let s = c.loop-m.invariant.1 in
-    let lt = c.loop-m-test.true in
-    rw c.size_at-m.ensures.0 (
-      rest p lt,
-      elim c.if-is_equal_key.branch [
-        | then-is_equal_key w ↦ rw w.old-is (scan_hit ns t c.args.j c.args.i c.loop-m.old c.loop-m.m p lt s (sym w.if-is_equal_key.true ∙ c.is_equal_key.ensures))
-        | else-is_equal_key w ↦ rw w.old-is (scan_over ns t c.args.j c.args.i c.loop-m.old c.loop-m.m p lt s (sym w.if-is_equal_key.false ∙ c.is_equal_key.ensures))
-      ],
-    )
+    walk_on c.loop-m.invariant c.in-Some.ensures.steps (λ p lt s. scan_over _ _ _ _ _ _ p lt s (sym c.if-is_equal_key.false ∙ c.is_equal_key.ensures))
 
 pub returns : goal.returns
 returns c =
-    scan_end c.args.self.now.numbers.now c.args.self.now.t.now c.args.j c.args.i c.loop-m.old c.loop-m.m c.loop-m.invariant.1 c.loop-m-test.false
+    let h = walk_end c.loop-m.invariant c.in-None.ensures.steps in
+    scan_end c.args.self.now.numbers.now c.args.self.now.t.now c.args.j c.args.i c.loop-m.old c.loop-m.m-iterator.at h.1 h.0

@@ -1,47 +1,58 @@
 use native.Mathlib.Omega.{arith}
 use Prim.Native.Nat.{◌+◌, ℕ}
-use mathlib.Core.Path.{sym, ap, ◌∙◌}
+use mathlib.Core.Path.{refl, sym, ap, ◌∙◌}
 use mathlib.Core.Bool.{true, false}
 use Rattle.std.proofs.lemmas.Bool.{both_ways}
-use Rattle.tree.proofs.Laws.{rest}
-use Rattle.answer.proofs.Flat.{going_on, going_end, added_none, added_as}
+use Rattle.tree.proofs.Laws.{sized, ended, first}
+use Rattle.tree.proofs.Walked.{walk_start, walk_at, walk_on, walk_end}
+use Rattle.answer.proofs.Flat.{going, going_on, going_end, added_none, added_as}
 use Rattle.flow.specs.Walks.{is_name}
 use Rattle.flow.proofs.Steps.{below}
-use Rattle.flow.proofs.Reaching.{walked_as, walked_still, walked_two, here_list, here_sides, here_fails, here_stops, each_walked, list_again, each_next, each_past, list_stopped, list_through, side_there, side_absent, side_whole, side_low, side_ends, unreached_some, unreached_none}
+use Rattle.flow.proofs.Reaching.{walked_as, walked_still, walked_two, here_list, here_sides, here_fails, here_stops, each_walked, list_again, each_next, each_past, list_stopped, list_done, side_there, side_absent, side_whole, side_low, side_ends, unreached_some}
 use Rattle.flow.proofs.reach.+reaching.Goals as goal
-use Rattle.flow.proofs.reach.+reaching.Goals.{in_list-then-loop-aborts-test+else-j-e, in_list-else-loop-aborts-test, in_list-else-aborts-via-then-aborts+else-j-e-2, in_list-else-aborts-via-else-aborts}
+
+pub each-loop-j-init : goal.each-loop-j-init
+each-loop-j-init t c =
+    walk_start c.into_iter-j-iterator.ensures.into_iter_gives c.siblings-j-items.ensures c.requires.0 (omega arith, going _ _)
+
+pub each-reachable-requires : goal.each-reachable-requires
+each-reachable-requires t c =
+    let h = walk_at c.loop-j.invariant c.in-Some.ensures.steps in
+    (omega (arith, c.decreases, h.1, h.2.0, ended h.0 h.1), record { part = first h.0 h.1; some = sized h.0 h.1 })
 
 pub each-loop-j-preserved : goal.each-loop-j-preserved
 each-loop-j-preserved t c =
-    rw c.size_at-j.ensures.0 (rest c.loop-j.invariant.0 c.loop-j-test.true, omega (arith, c.loop-j.invariant.1), going_on c.loop-j.invariant.2 _ _ c.reachable.ensures.written (each_next (is_name c.args.fail) c.loop-j.invariant.0 c.loop-j-test.true))
+    walk_on c.loop-j.invariant c.in-Some.ensures.steps (λ p lt h. (omega (arith, h.0), going_on h.1 _ _ c.reachable.ensures.written (each_next (is_name c.args.fail) p lt)))
 
 pub each-returns : goal.each-returns
 each-returns t c =
-    going_end c.loop-j.invariant.2 (each_past (is_name c.args.fail) c.args.t.now c.loop-j.j c.args.e c.loop-j-test.false)
+    let h = walk_end c.loop-j.invariant c.in-None.ensures.steps in
+    going_end h.1.1 (each_past (is_name c.args.fail) c.args.t.now c.loop-j.j-iterator.at c.args.e h.0)
 
-pub in_list-loop-aborts-preserved : goal.in_list-loop-aborts-preserved
-in_list-loop-aborts-preserved t c =
-    let g = c.loop-aborts.invariant in
-    let x = list_again (is_name c.args.fail) g.0 c.if-j-e.true c.loop-aborts.aborts c.loop-aborts-test.true g.2 g.3 c.reachable-aborts.ensures in
-    rw c.size_at-j.ensures.0 (rest g.0 c.if-j-e.true, omega (arith, g.1), x.0, x.1)
+pub in_list-loop-j-init : goal.in_list-loop-j-init
+in_list-loop-j-init t c =
+    walk_start c.into_iter-j-iterator.ensures.into_iter_gives c.siblings-j-items.ensures c.requires.0 (omega arith, going _ _, refl)
 
-pub in_list-returns-then-j-e-2 : goal.in_list-returns-then-j-e-2
-in_list-returns-then-j-e-2 t c =
-    let g = c.loop-aborts.invariant in
-    let w = added_as _ (unreached_some c.args.t.now c.loop-aborts.j c.args.e g.0 c.if-j-e-2.true) c.put_plainly.ensures in
-    list_stopped (is_name c.args.fail) c.args.t.now c.args.i c.loop-aborts.j c.args.e c.loop-aborts.aborts c.if-aborts.true g.2 g.3 w
+pub in_list-reachable-aborts-requires : goal.in_list-reachable-aborts-requires
+in_list-reachable-aborts-requires t c =
+    let h = walk_at c.loop-j.invariant c.in-Some.ensures.steps in
+    (omega (arith, c.decreases, h.1, h.2.0, ended h.0 h.1), record { part = first h.0 h.1; some = sized h.0 h.1 })
 
-pub in_list-returns-else-aborts : goal.in_list-returns-else-aborts
-in_list-returns-else-aborts t c =
-    let g = c.loop-aborts.invariant in
-    elim c.else-aborts.branch [
-      | in_list-else-aborts-via-then-aborts+else-j-e-2 w ↦ list_stopped (is_name c.args.fail) c.args.t.now c.args.i c.loop-aborts.j c.args.e c.loop-aborts.aborts w.if-aborts.true g.2 g.3
-          (added_as _ (unreached_none c.args.t.now c.loop-aborts.j c.args.e w.if-j-e-2.false) (added_none _))
-      | in_list-else-aborts-via-else-aborts w ↦ elim c.loop-aborts-test.branch [
-        | in_list-then-loop-aborts-test+else-j-e u ↦ list_through (is_name c.args.fail) c.args.t.now c.args.i c.loop-aborts.j c.args.e c.loop-aborts.aborts w.if-aborts.false u.if-j-e.false g.2 g.3
-        | in_list-else-loop-aborts-test u ↦ absurd (both_ways _ w.if-aborts.false u.loop-aborts-test.false)
-      ]
-    ]
+pub in_list-loop-j-preserved : goal.in_list-loop-j-preserved
+in_list-loop-j-preserved t c =
+    walk_on c.loop-j.invariant c.in-Some.ensures.steps (λ p lt h.
+      let x = list_again (is_name c.args.fail) p lt c.loop-j.aborts c.if-aborts.false h.1 h.2 c.reachable-aborts.ensures in (omega (arith, h.0), x.0, x.1))
+
+pub in_list-returns-then-aborts : goal.in_list-returns-then-aborts
+in_list-returns-then-aborts t c =
+    let h = walk_at c.loop-j.invariant c.in-Some.ensures.steps in
+    let w = added_as _ (unreached_some c.args.t.now c.in-Some.j c.args.e h.0 h.1) c.put_plainly.ensures in
+    rw c.if-aborts.true at (list_stopped (is_name c.args.fail) c.args.t.now c.args.i c.in-Some.j c.args.e c.loop-j.aborts c.if-aborts.true h.2.1 h.2.2 w)
+
+pub in_list-returns : goal.in_list-returns
+in_list-returns t c =
+    let h = walk_end c.loop-j.invariant c.in-None.ensures.steps in
+    list_done (is_name c.args.fail) c.args.t.now c.args.i c.loop-j.j-iterator.at c.args.e c.loop-j.aborts h.0 h.1.1 h.1.2
 
 pub reachable-returns-then-k : goal.reachable-returns-then-k
 reachable-returns-then-k t c =

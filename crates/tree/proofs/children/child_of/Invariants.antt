@@ -1,10 +1,7 @@
-use Prim.Native.Nat.{◌-◌}
 use mathlib.Core.Path.{◌≡◌}
 use Rattle.tree.specs.code.Find.{child_of}
+use Rattle.tree.proofs.Walked.{Along}
 use Rattle.tree.proofs.children.child_of.Given as goal
 
 abbrev pub invariant-loop-i : goal.invariant-loop-i
-invariant-loop-i l = child_of l.t l.role l.i l.e ≡ child_of l.t l.role l.from l.e
-
-abbrev pub decreases-loop-i : goal.decreases-loop-i
-decreases-loop-i l = l.e - l.i
+invariant-loop-i l = Along l.t l.e l.i-iterator (λ i. child_of l.t l.role i l.e ≡ child_of l.t l.role l.from l.e)

@@ -1,16 +1,23 @@
-use Rattle.tree.proofs.Laws.{rest}
-use Rattle.incompatible.proofs.Told.{telling_on, telling_end}
-use Rattle.incompatible.proofs.Deeds.{named_over, named_past}
+use Rattle.tree.proofs.Laws.{sized, ended, first}
+use Rattle.tree.proofs.Walked.{walk_start, walk_at, walk_on, walk_end}
+use Rattle.incompatible.proofs.Told.{telling, telling_on, telling_end}
+use Rattle.incompatible.proofs.Deeds.{fewer, named_over, named_past}
 use Rattle.incompatible.proofs.assigns.Defined.visit_lvalue.Goals as goal
+
+pub loop-j-init : goal.loop-j-init
+loop-j-init c =
+    walk_start c.into_iter-j-iterator.ensures.into_iter_gives c.siblings-j-items.ensures c.requires.0 (c.requires.1, telling _ _ _ _)
+
+pub lvalue-requires : goal.lvalue-requires
+lvalue-requires c =
+    let h = walk_at c.loop-j.invariant c.in-Some.ensures.steps in
+    (record { part = first h.0 h.1; some = sized h.0 h.1 }, fewer h.2.0 (ended h.0 h.1))
 
 pub loop-j-preserved : goal.loop-j-preserved
 loop-j-preserved c =
-    rw c.size_at-j.ensures.0 (
-      rest c.loop-j.invariant.0 c.loop-j-test.true,
-      c.loop-j.invariant.1,
-      telling_on c.loop-j.invariant.2 _ _ c.lvalue.ensures (named_over c.args.role c.loop-j.invariant.0 c.loop-j-test.true),
-    )
+    walk_on c.loop-j.invariant c.in-Some.ensures.steps (λ p lt h. (h.0, telling_on h.1 _ _ c.lvalue.ensures (named_over c.args.role p lt)))
 
 pub returns : goal.returns
 returns c =
-    telling_end c.loop-j.invariant.2 (named_past c.args.role c.args.t.now c.loop-j.j c.args.e c.loop-j-test.false)
+    let h = walk_end c.loop-j.invariant c.in-None.ensures.steps in
+    telling_end h.1.1 (named_past c.args.role c.args.t.now c.loop-j.j-iterator.at c.args.e h.0)

@@ -8,7 +8,8 @@ use lib.ListN.{get_or}
 use Rattle.tree.specs.Bytes.{size_at}
 use Rattle.tree.specs.declared.kinds.Role.TheVariants.{Item}
 use Rattle.meeting.specs.declared.walk.Ask.TheVariants.{Of}
-use Rattle.tree.proofs.Laws.{sized, ended, rest}
+use Rattle.tree.proofs.Laws.{ended}
+use Rattle.tree.proofs.Walked.{walk_start, walk_at, walk_on, walk_end}
 use Rattle.meeting.specs.Asked.{below, step, at}
 use Rattle.meeting.specs.Meant.{meant, number}
 use Rattle.meeting.proofs.Walking.{whole_at, few, walk_starts, walk_goes, walk_ends, walk_none, walk_same, below_self, below_other, plan_next, plan_done, step_wanted, step_unwanted, visit_next, visit_done}
@@ -51,23 +52,21 @@ node-returns t c =
     walk_ends c.loop-ask.invariant (plan_done c.args.self.now.t.now c.args.plan.now c.args.c c.loop-ask.ask-index c.loop-ask-test.false)
 
 pub visit-loop-c-init : goal.visit-loop-c-init
-visit-loop-c-init t c = (omega arith, c.requires, walk_starts _ _)
+visit-loop-c-init t c =
+    walk_start c.into_iter-c-iterator.ensures.into_iter_gives c.siblings-c-items.ensures c.requires (omega arith, walk_starts _ _)
 
 pub visit-step-requires : goal.visit-step-requires
 visit-step-requires t c =
-    rw c.loop-c.invariant.2.file (omega (arith, c.decreases, ended c.loop-c.invariant.1 c.loop-c-test.true, c.loop-c.invariant.0), whole_at c.loop-c.invariant.1 c.loop-c-test.true)
-
-pub visit-loop-c-smaller : goal.visit-loop-c-smaller
-visit-loop-c-smaller t c =
-    let f : c.step.new.self.t.now ≡ c.args.self.now.t.now = c.step.ensures.file ∙ c.loop-c.invariant.2.file in
-    omega (arith, sized c.loop-c.invariant.1 c.loop-c-test.true, rw f at c.size_at-c.ensures.0, c.loop-c-test.true)
+    let h = walk_at c.loop-c.invariant c.in-Some.ensures.steps in
+    rw h.2.1.file (omega (arith, c.decreases, ended h.0 h.1, h.2.0), whole_at h.0 h.1)
 
 pub visit-loop-c-preserved : goal.visit-loop-c-preserved
 visit-loop-c-preserved t c =
-    let f : c.step.new.self.t.now ≡ c.args.self.now.t.now = c.step.ensures.file ∙ c.loop-c.invariant.2.file in
-    let z : c.size_at-c.result ≡ size_at c.args.self.now.t.now c.loop-c.c = rw f at c.size_at-c.ensures.0 in
-    (omega (arith, c.loop-c.invariant.0), rw z (rest c.loop-c.invariant.1 c.loop-c-test.true), walk_goes c.step.new.self (λ (u : List ℕ). at (step (meant c.loop-c.ask)) u c.loop-c.c) _ c.loop-c.invariant.2 (visit_next c.args.self.now.t.now (meant c.loop-c.ask) (meant c.after-ask.result) c.loop-c.invariant.1 c.loop-c-test.true (rw f at c.role_at.ensures.0) c.after-ask.ensures z) c.step.ensures)
+    walk_on c.loop-c.invariant c.in-Some.ensures.steps (λ p lt h.
+      let f : c.step.new.self.t.now ≡ c.args.self.now.t.now = c.step.ensures.file ∙ h.1.file in
+      (omega (arith, h.0), walk_goes c.step.new.self (λ (u : List ℕ). at (step (meant c.loop-c.ask)) u c.in-Some.c) _ h.1 (visit_next c.args.self.now.t.now (meant c.loop-c.ask) (meant c.after-ask.result) p lt (rw f at c.role_at.ensures.0) c.after-ask.ensures refl) c.step.ensures))
 
 pub visit-returns : goal.visit-returns
 visit-returns t c =
-    walk_ends c.loop-c.invariant.2 (visit_done c.args.self.now.t.now (meant c.loop-c.ask) c.loop-c.c c.args.e c.loop-c-test.false)
+    let h = walk_end c.loop-c.invariant c.in-None.ensures.steps in
+    walk_ends h.1.1 (visit_done c.args.self.now.t.now (meant c.loop-c.ask) c.loop-c.c-iterator.at c.args.e h.0)

@@ -3,7 +3,7 @@ use mathlib.Core.List.{map}
 use lib.ListN.{drop}
 use Rattle.tree.specs.Bytes.{size_at}
 use Rattle.tree.specs.Forest.{forest_of}
-use Rattle.tree.specs.code.Part.{Part}
+use Rattle.tree.proofs.Walked.{Walked as Walks}
 use Rattle.meeting.specs.Asked.{asked_as, run, at}
 use Rattle.meeting.specs.Meant.{meant, number}
 use Rattle.meeting.proofs.Walking.{Walking}
@@ -17,10 +17,7 @@ invariant-node-loop-ask l =
 abbrev pub invariant-visit-loop-c : goal.invariant-visit-loop-c
 invariant-visit-loop-c l =
     let t = l.initial.self.t.now in
-    (l.i ≤ l.c) × Part t l.c l.e × Walking l.initial.self l.self (asked_as (meant l.fn.first) (forest_of t l.i l.e)) (asked_as (meant l.ask) (forest_of t l.c l.e))
-
-abbrev pub decreases-visit-loop-c : goal.decreases-visit-loop-c
-decreases-visit-loop-c l = l.e - l.c
+    Walks t l.e l.c-iterator (λ c. (l.i ≤ c) × Walking l.initial.self l.self (asked_as (meant l.fn.first) (forest_of t l.i l.e)) (asked_as (meant l.ask) (forest_of t c l.e)))
 
 abbrev pub decreases-below : goal.decreases-below
 decreases-below l = 16 * size_at l.self.now.t.now l.c + 6

@@ -4,7 +4,8 @@ use borrow.Author.Tests.{eq-eqb, ne_eqb}
 use native.Mathlib.Omega.{arith}
 use mathlib.Core.Path.{refl, sym, ap, ◌∙◌}
 use Rattle.tree.specs.Bytes.{role_at}
-use Rattle.tree.proofs.Laws.{rest, ended}
+use Rattle.tree.proofs.Laws.{ended}
+use Rattle.tree.proofs.Walked.{walk_start, walk_at, walk_on, walk_end}
 use Rattle.names.proofs.Going.{skips, goes_as, goes_fits}
 use Rattle.names.proofs.Parts.{node_in_part, name_several, name_name, name_other}
 use Rattle.names.specs.Walk.{number, used_by}
@@ -13,22 +14,29 @@ use Rattle.names.proofs.Rows.{names_on, names_last, kids_as, names_as, pick_true
 use Rattle.names.proofs.walk.Walk.+binding.Goals as goal
 
 pub bind-loop-i-init : goal.bind-loop-i-init
-bind-loop-i-init t c =
-    (omega arith, ap (λ (z : ℕ). c.args.c + z) c.size_at.ensures.0, kids_as c.args.self.now.t.now c.args.c _ c.size_at.ensures.0 c.requires.0, c.requires.1, refl, λ d v y g. goes_as (names_as c.args.self.now.t.now c.args.c _ c.size_at.ensures.0 (number c.args.role) (used_by c.args.binding)) g)
+bind-loop-i-init t c = (
+      ap (λ (z : ℕ). c.args.c + z) c.size_at.ensures.0,
+      walk_start c.into_iter-i-iterator.ensures.into_iter_gives c.siblings-i-items.ensures (kids_as c.args.self.now.t.now c.args.c _ c.size_at.ensures.0 c.requires.0)
+        (omega arith, c.requires.1, refl, λ d v y g. goes_as (names_as c.args.self.now.t.now c.args.c _ c.size_at.ensures.0 (number c.args.role) (used_by c.args.binding)) g),
+    )
 
 pub bind-bind_one-s-requires : goal.bind-bind_one-s-requires
 bind-bind_one-s-requires t c =
-    let p = c.loop-i.invariant.2 in let n = ended p c.loop-i-test.true in (omega (arith, c.decreases, c.loop-i.invariant.0, c.loop-i.invariant.1), (node_in_part p c.loop-i-test.true (omega arith), c.loop-i.invariant.3))
+    let h = walk_at c.loop-i.invariant.1 c.in-Some.ensures.steps in let n = ended h.0 h.1 in
+    (omega (arith, c.decreases, h.1, h.2.0, c.loop-i.invariant.0), (node_in_part h.0 h.1 (omega arith), h.2.1))
 
 pub bind-loop-i-preserved : goal.bind-loop-i-preserved
 bind-loop-i-preserved t c =
-    let p = c.loop-i.invariant.2 in
-    let g = c.bind_one-s.ensures in
-    rw c.size_at-i.ensures.0 (omega (arith, c.loop-i.invariant.0), c.loop-i.invariant.1, rest p c.loop-i-test.true, goes_fits (g 0), omega arith, λ d v y h. c.loop-i.invariant.5 d v y (names_on (number c.args.role) (used_by c.args.binding) p c.loop-i-test.true (g d) h))
+    let g = c.bind_one-s.ensures in (
+      c.loop-i.invariant.0,
+      walk_on c.loop-i.invariant.1 c.in-Some.ensures.steps (λ p lt h.
+        (omega (arith, h.0), goes_fits (g 0), omega (arith, h.2), λ d v y q. h.3 d v y (names_on (number c.args.role) (used_by c.args.binding) p lt (g d) q))),
+    )
 
 pub bind-returns : goal.bind-returns
 bind-returns t c =
-    λ d. c.loop-i.invariant.5 d _ _ (names_last (number c.args.role) (used_by c.args.binding) c.loop-i.i _ c.loop-i-test.false c.loop-i.invariant.3)
+    let h = walk_end c.loop-i.invariant.1 c.in-None.ensures.steps in
+    λ d. h.1.3 d _ _ (names_last (number c.args.role) (used_by c.args.binding) c.loop-i.i-iterator.at _ h.0 h.1.1)
 
 pub bind_one-returns-then-role_at-role : goal.bind_one-returns-then-role_at-role
 bind_one-returns-then-role_at-role t c =

@@ -12,6 +12,7 @@ use Rattle.tree.specs.Forest.{node_head}
 use Rattle.rules.specs.Order.{breaks, broken_by, fails}
 use Rattle.scope.specs.declared.Abort.TheVariants.{Function, Loop}
 use Rattle.tree.proofs.Laws.{rest, sized, ended}
+use Rattle.tree.proofs.Walked.{walk_start, walk_at, walk_on, walk_end}
 use Rattle.names.proofs.walk.Walk.+walking.Goals as goal
 
 pub assign-returns : goal.assign-returns
@@ -127,22 +128,29 @@ lambda-returns t c = goes_as (node_lambda _ _ _ c.requires.0) (then c.down-s.ens
 
 pub later-loop-i-init : goal.later-loop-i-init
 later-loop-i-init t c =
-    rw (c.size_at.ensures.0, c.size_at-2.ensures.0) (omega (arith, c.requires.0), refl, below_rest c.requires.2 c.requires.0 c.requires.1, c.requires.3, refl, λ v y g. g)
+    let n = c.size_at.ensures.0 in
+    let m = c.size_at-2.ensures.0 in (
+      rw n refl,
+      walk_start c.into_iter-i-iterator.ensures.into_iter_gives c.siblings-i-items.ensures
+        (rw (n, m) (below_rest c.requires.2 c.requires.0 c.requires.1))
+        (omega (arith, c.requires.0), c.requires.3, refl, rw (n, m) (λ v y g. g)),
+    )
 
 pub later-clause-s-requires : goal.later-clause-s-requires
 later-clause-s-requires t c =
-    let p = c.loop-i.invariant.2 in let n = ended p c.loop-i-test.true in (omega (arith, c.decreases, c.loop-i.invariant.0, c.loop-i.invariant.1), (node_in_part p c.loop-i-test.true (omega (arith, c.requires.2.deep, c.loop-i.invariant.0)), c.loop-i.invariant.3))
+    let h = walk_at c.loop-i.invariant.1 c.in-Some.ensures.steps in let n = ended h.0 h.1 in
+    (omega (arith, c.decreases, h.1, h.2.0, c.loop-i.invariant.0), (node_in_part h.0 h.1 (omega (arith, c.requires.2.deep, h.2.0)), h.2.1))
 
 pub later-loop-i-preserved : goal.later-loop-i-preserved
 later-loop-i-preserved t c =
-    let p = c.loop-i.invariant.2 in
-    let g = c.clause-s.ensures in
-    rw c.size_at-i.ensures.0
-    (omega (arith, c.loop-i.invariant.0), c.loop-i.invariant.1, rest p c.loop-i-test.true, goes_fits g, omega arith, λ v y h. c.loop-i.invariant.5 v y (clauses_on c.args.self.now.fail p c.loop-i-test.true g h))
+    let g = c.clause-s.ensures in (
+      c.loop-i.invariant.0,
+      walk_on c.loop-i.invariant.1 c.in-Some.ensures.steps (λ p lt h. (omega (arith, h.0), goes_fits g, omega (arith, h.2), λ v y q. h.3 v y (clauses_on c.args.self.now.fail p lt g q))),
+    )
 
 pub later-returns : goal.later-returns
 later-returns t c =
-    c.loop-i.invariant.5 _ _ (clauses_last c.args.self.now.fail c.loop-i.i _ c.loop-i-test.false c.loop-i.invariant.3)
+    let h = walk_end c.loop-i.invariant.1 c.in-None.ensures.steps in h.1.3 _ _ (clauses_last c.args.self.now.fail c.loop-i.i-iterator.at _ h.0 h.1.1)
 
 pub loops-turn-s-requires : goal.loops-turn-s-requires
 loops-turn-s-requires t c =
@@ -205,20 +213,24 @@ pub turn-returns : goal.turn-returns
 turn-returns t c =
     turns_to (methods _) c.requires.1 (regroup (then c.assign-a.ensures c.down-a.ensures)) c.back.ensures c.join.ensures c.unlooped.ensures
 
+pub visit-loop-c-init : goal.visit-loop-c-init
+visit-loop-c-init t c =
+    walk_start c.into_iter-c-iterator.ensures.into_iter_gives c.siblings-c-items.ensures c.requires.0 (omega arith, c.requires.2, refl, λ v y g. g)
+
 pub visit-step-s-requires : goal.visit-step-s-requires
 visit-step-s-requires t c =
-    let p = c.loop-c.invariant.1 in let n = ended p c.loop-c-test.true in (omega (arith, c.decreases, c.loop-c.invariant.0), (node_in_part p c.loop-c-test.true (omega (arith, c.requires.1, c.loop-c.invariant.0)), omega (arith, c.requires.1, c.loop-c.invariant.0), c.loop-c.invariant.2))
+    let h = walk_at c.loop-c.invariant c.in-Some.ensures.steps in let n = ended h.0 h.1 in
+    (omega (arith, c.decreases, h.1, h.2.0), (node_in_part h.0 h.1 (omega (arith, c.requires.1, h.2.0)), omega (arith, c.requires.1, h.2.0), h.2.1))
 
 pub visit-loop-c-preserved : goal.visit-loop-c-preserved
 visit-loop-c-preserved t c =
-    let p = c.loop-c.invariant.1 in
     let g = c.step-s.ensures in
-    rw c.size_at-c.ensures.0
-    (omega (arith, c.loop-c.invariant.0), rest p c.loop-c-test.true, goes_fits g, omega arith, λ v y h. c.loop-c.invariant.4 v y (visit_on c.args.self.now.fail c.args.wanted p c.loop-c-test.true g h))
+    walk_on c.loop-c.invariant c.in-Some.ensures.steps (λ p lt h. (omega (arith, h.0), goes_fits g, omega (arith, h.2), λ v y q. h.3 v y (visit_on c.args.self.now.fail c.args.wanted p lt g q)))
 
 pub visit-returns : goal.visit-returns
 visit-returns t c =
-    c.loop-c.invariant.4 _ _ (visit_last c.args.self.now.fail c.args.wanted c.loop-c.c c.args.e c.loop-c-test.false c.loop-c.invariant.2)
+    let h = walk_end c.loop-c.invariant c.in-None.ensures.steps in
+    h.1.3 _ _ (visit_last c.args.self.now.fail c.args.wanted c.loop-c.c-iterator.at c.args.e h.0 h.1.1)
 
 pub stmt-returns-then-k-5 : goal.stmt-returns-then-k-5
 stmt-returns-then-k-5 t c =

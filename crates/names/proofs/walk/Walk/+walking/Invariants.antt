@@ -3,7 +3,7 @@ use Rattle.tree.specs.Bytes.{size_at}
 use mathlib.Core.Path.{◌≡◌}
 use mathlib.Core.List.{List}
 use lib.ListN.{length}
-use Rattle.tree.specs.code.Part.{Part}
+use Rattle.tree.proofs.Walked.{Walked}
 use Rattle.scope.specs.State.{Fits}
 use Rattle.names.specs.Walk.{Goes, clauses_of, want_of, visit_of}
 use Rattle.scope.specs.declared.Scope.{Scope}
@@ -11,19 +11,14 @@ use Rattle.names.proofs.walk.Walk.+walking.Given as goal
 
 abbrev pub invariant-later-loop-i : goal.invariant-later-loop-i
 invariant-later-loop-i l =
-    (l.c < l.i) × (l.e ≡ l.c + size_at l.self.t.now l.c) × Part l.self.t.now l.i l.e × Fits l.w l.s × (length l.w ≡ length l.initial.w)
-    × ((v : List ℕ) (y : Scope) → Goes l.self.t.now l.d (clauses_of l.self.t.now l.self.fail l.i l.e) l.w l.s v y → Goes l.self.t.now l.d (clauses_of l.self.t.now l.self.fail (l.x + size_at l.self.t.now l.x) (l.c + size_at l.self.t.now l.c)) l.initial.w l.initial.s v y)
-
-abbrev pub decreases-later-loop-i : goal.decreases-later-loop-i
-decreases-later-loop-i l = l.e - l.i
+    (l.e ≡ l.c + size_at l.self.t.now l.c)
+    × Walked l.self.t.now l.e l.i-iterator (λ i. (l.c < i) × Fits l.w l.s × (length l.w ≡ length l.initial.w)
+    × ((v : List ℕ) (y : Scope) → Goes l.self.t.now l.d (clauses_of l.self.t.now l.self.fail i l.e) l.w l.s v y → Goes l.self.t.now l.d (clauses_of l.self.t.now l.self.fail (l.x + size_at l.self.t.now l.x) (l.c + size_at l.self.t.now l.c)) l.initial.w l.initial.s v y))
 
 abbrev pub invariant-visit-loop-c : goal.invariant-visit-loop-c
 invariant-visit-loop-c l =
-    (l.i ≤ l.c) × Part l.self.t.now l.c l.e × Fits l.w l.s × (length l.w ≡ length l.initial.w)
-    × ((v : List ℕ) (y : Scope) → Goes l.self.t.now l.d (visit_of l.self.t.now l.self.fail (want_of l.wanted) l.c l.e) l.w l.s v y → Goes l.self.t.now l.d (visit_of l.self.t.now l.self.fail (want_of l.wanted) l.i l.e) l.initial.w l.initial.s v y)
-
-abbrev pub decreases-visit-loop-c : goal.decreases-visit-loop-c
-decreases-visit-loop-c l = l.e - l.c
+    Walked l.self.t.now l.e l.c-iterator (λ c. (l.i ≤ c) × Fits l.w l.s × (length l.w ≡ length l.initial.w)
+    × ((v : List ℕ) (y : Scope) → Goes l.self.t.now l.d (visit_of l.self.t.now l.self.fail (want_of l.wanted) c l.e) l.w l.s v y → Goes l.self.t.now l.d (visit_of l.self.t.now l.self.fail (want_of l.wanted) l.i l.e) l.initial.w l.initial.s v y))
 
 abbrev pub decreases-gets : goal.decreases-gets
 decreases-gets l = 16 * size_at l.self.now.t.now l.c + 2

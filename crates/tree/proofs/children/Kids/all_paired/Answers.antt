@@ -1,31 +1,34 @@
 use Prim.Native.Nat.{◌-◌}
 use native.Mathlib.Omega.{arith}
 use mathlib.Core.Path.{◌≡◌, refl, sym, ◌∙◌}
-use mathlib.Core.Logic.{◌⊎◌, inl, inr}
-use Rattle.tree.proofs.Kids.{pair_no, pair_yes, pair_end}
+use mathlib.Core.Logic.{inl, inr}
+use Rattle.tree.proofs.Kids.{kids_on, pair_no, pair_yes, pair_end}
+use Rattle.tree.proofs.Walked.{along_start, along_at, along_on, along_end}
 use Rattle.tree.proofs.children.Kids.all_paired.Goals as goal
-use Rattle.tree.proofs.children.Kids.all_paired.Goals.{then-due-key, else-due-key}
 
 pub loop-c-init : goal.loop-c-init
-loop-c-init c = (inl refl, refl)
+loop-c-init c = along_start c.into_iter-c-iterator.ensures.into_iter_gives c.siblings-c-items.ensures (inl refl, refl)
 
 pub returns-then-role_at-due : goal.returns-then-role_at-due
 returns-then-role_at-due c =
-    sym (pair_no c.args.self.now.t.now c.loop-c.due c.loop-c.c c.args.self.now.end c.args.self.now.sized (omega arith) (λ q. c.if-role_at-due.true (c.role_at.ensures.0 ∙ q))) ∙ c.loop-c.invariant.1
-
-pub loop-c-smaller : goal.loop-c-smaller
-loop-c-smaller c = let z = c.args.self.now.sized c.loop-c.c (omega arith) in let f = c.size_at-c.ensures.0 in omega arith
+    let h = along_at c.loop-c.invariant c.in-Some.ensures.steps in
+    sym (pair_no c.args.self.now.t.now c.loop-c.due c.in-Some.c c.args.self.now.end c.args.self.now.sized h.0 (λ q. c.if-role_at-due.true (c.role_at.ensures.0 ∙ q))) ∙ h.1.1
 
 pub loop-c-preserved : goal.loop-c-preserved
 loop-c-preserved c =
-    let f = c.size_at-c.ensures.0 in
-    let y = pair_yes c.args.self.now.t.now c.loop-c.due c.loop-c.c c.args.self.now.end c.args.self.now.sized (omega arith) (sym c.role_at.ensures.0 ∙ c.if-role_at-due.false) ∙ c.loop-c.invariant.1 in
-    let s : c.if-due-key.due ≡ 12 - c.loop-c.due = elim c.if-due-key.branch [
-      | then-due-key w ↦ omega (arith, w.due-is, w.if-due-key.true)
-      | else-due-key w ↦ elim c.loop-c.invariant.0 [ inl p ↦ absurd (w.if-due-key.false p) | inr p ↦ omega (arith, w.due-is, p) ]
-    ] in
-    let z : (c.if-due-key.due ≡ 8) ⊎ (c.if-due-key.due ≡ 4) = elim c.if-due-key.branch [ then-due-key w ↦ inr w.due-is | else-due-key w ↦ inl w.due-is ] in
-    (z, rw (f, s) y)
+    along_on c.loop-c.invariant c.in-Some.ensures.steps (λ x h.
+      let y = pair_yes c.args.self.now.t.now c.loop-c.due c.in-Some.c c.args.self.now.end c.args.self.now.sized x.within (sym c.role_at.ensures.0 ∙ c.if-role_at-due.false) ∙ h.1 in
+      let s : 8 ≡ 12 - c.loop-c.due = elim h.0 [ inl p ↦ absurd (c.if-due-key.false p) | inr p ↦ omega (arith, p) ] in
+      (inl refl, rw (kids_on c.args.self.now.sized x) (rw (sym s) at y)))
+
+pub loop-c-preserved-then-due-key : goal.loop-c-preserved-then-due-key
+loop-c-preserved-then-due-key c =
+    along_on c.loop-c.invariant c.in-Some.ensures.steps (λ x h.
+      let y = pair_yes c.args.self.now.t.now c.loop-c.due c.in-Some.c c.args.self.now.end c.args.self.now.sized x.within (sym c.role_at.ensures.0 ∙ c.if-role_at-due.false) ∙ h.1 in
+      let s : 4 ≡ 12 - c.loop-c.due = omega (arith, c.if-due-key.true) in
+      (inr refl, rw (kids_on c.args.self.now.sized x) (rw (sym s) at y)))
 
 pub returns : goal.returns
-returns c = sym (pair_end c.args.self.now.t.now c.loop-c.due c.loop-c.c c.args.self.now.end (omega arith)) ∙ c.loop-c.invariant.1
+returns c =
+    let h = along_end c.loop-c.invariant c.in-None.ensures.steps in
+    sym (pair_end c.args.self.now.t.now c.loop-c.due c.loop-c.c-iterator.at c.args.self.now.end h.0) ∙ h.1.1

@@ -1,21 +1,25 @@
 use native.Mathlib.Omega.{arith}
 use mathlib.Core.Path.{sym, ◌∙◌}
-use Rattle.tree.proofs.Kids.{role_yes, role_no, role_end}
+use Rattle.tree.proofs.Kids.{kids_on, role_yes, role_no, role_end}
+use Rattle.tree.proofs.Walked.{along_start, along_at, along_on, along_end}
 use Rattle.tree.proofs.children.Kids.of_role.Goals as goal
-use Rattle.tree.proofs.children.Kids.of_role.Goals.{then-role_at-r, else-role_at-r}
 
-pub loop-c-smaller : goal.loop-c-smaller
-loop-c-smaller c = let z = c.args.self.now.sized c.loop-c.c (omega arith) in let f = c.size_at-c.ensures.0 in omega arith
+pub loop-c-init : goal.loop-c-init
+loop-c-init c = along_start c.into_iter-c-iterator.ensures.into_iter_gives c.siblings-c-items.ensures (omega arith, omega arith)
+
+pub loop-c-preserved-then-role_at-r : goal.loop-c-preserved-then-role_at-r
+loop-c-preserved-then-role_at-r c =
+    along_on c.loop-c.invariant c.in-Some.ensures.steps (λ x h.
+      let y = role_yes (c.args.self.now.t.now) (c.args.r) c.in-Some.c (c.args.self.now.end) c.args.self.now.sized x.within (sym c.role_at.ensures.0 ∙ c.if-role_at-r.true) in
+      (omega (arith, h.0, x.further), rw (kids_on c.args.self.now.sized x) (omega (arith, y, h.1))))
 
 pub loop-c-preserved : goal.loop-c-preserved
 loop-c-preserved c =
-    let z = c.args.self.now.sized c.loop-c.c (omega arith) in let f = c.size_at-c.ensures.0 in let x = c.role_at.ensures.0 in
-    let i = c.loop-c.invariant.1 in
-    elim c.if-role_at-r.branch [
-      | then-role_at-r w ↦ let y = role_yes (c.args.self.now.t.now) (c.args.r) c.loop-c.c (c.args.self.now.end) c.args.self.now.sized (omega arith) (sym x ∙ w.if-role_at-r.true) in (omega (arith, w.m-is), rw f (omega (arith, w.m-is, y, i)))
-      | else-role_at-r w ↦ let y = role_no (c.args.self.now.t.now) (c.args.r) c.loop-c.c (c.args.self.now.end) c.args.self.now.sized (omega arith) (λ q. w.if-role_at-r.false (x ∙ q)) in (omega (arith, w.m-is), rw f (omega (arith, w.m-is, y, i)))
-    ]
+    along_on c.loop-c.invariant c.in-Some.ensures.steps (λ x h.
+      let y = role_no (c.args.self.now.t.now) (c.args.r) c.in-Some.c (c.args.self.now.end) c.args.self.now.sized x.within (λ q. c.if-role_at-r.false (c.role_at.ensures.0 ∙ q)) in
+      (omega (arith, h.0, x.further), rw (kids_on c.args.self.now.sized x) (omega (arith, y, h.1))))
 
 pub returns : goal.returns
 returns c =
-    let y = role_end (c.args.self.now.t.now) (c.args.r) c.loop-c.c (c.args.self.now.end) (omega arith) in omega (arith, y, c.loop-c.invariant.1)
+    let h = along_end c.loop-c.invariant c.in-None.ensures.steps in
+    let y = role_end (c.args.self.now.t.now) (c.args.r) c.loop-c.c-iterator.at (c.args.self.now.end) h.0 in omega (arith, y, h.1.1)

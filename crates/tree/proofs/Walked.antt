@@ -1,0 +1,64 @@
+-- A walk over siblings, by what holds of the node where it stands. Assumes nothing.
+use Prim.Native.Nat.{ℕ, ◌+◌, ◌≤◌, ◌<◌}
+use native.Mathlib.Omega.{arith}
+use mathlib.Core.Path.{◌≡◌, ◌∙◌}
+use mathlib.Core.List.{List}
+use Rattle.tree.specs.Bytes.{size_at}
+use Rattle.tree.specs.code.Part.{Part}
+use Rattle.tree.specs.code.Siblings.{Next, Goes}
+use Rattle.tree.specs.declared.siblings.SiblingWalk.{SiblingWalk}
+use Rattle.tree.proofs.Laws.{sized, ended, rest}
+
+-- Walk w goes through file t up to node e, and P holds of the node where it stands.
+pub record Along (t : List ℕ) (e : ℕ) (w : SiblingWalk) (P : ℕ → Type 0) : Type 0 where
+  pub same : w.t.now ≡ t
+  pub ends : w.end ≡ e
+  pub so : P w.at
+
+module _ {t : List ℕ} {e : ℕ} {P : ℕ → Type 0} where
+  pub along_start : {i : ℕ} {v w : SiblingWalk} → w ≡ v → (v.t.now ≡ t) × (v.at ≡ i) × (v.end ≡ e) → P i → Along t e w P
+  along_start is v q = rw is (record { same = v.0; ends = v.2; so = rw v.1 q })
+
+  -- at the end
+  pub along_end : {a : SiblingWalk} → Along t e a P → a.end ≤ a.at → (e ≤ a.at) × P a.at
+  along_end w h = (omega (arith, w.ends), w.so)
+
+  module _ {a b : SiblingWalk} {j : ℕ} (w : Along t e a P) (g : Goes a j b) where
+    -- at a sibling
+    pub along_at : (j < e) × P j
+    along_at = (omega (arith, g.next.within, w.ends), rw (g.here) w.so)
+
+    -- and on to the next
+    pub along_next : Next t e j b.at
+    along_next = rw (w.same, w.ends) at (g.next)
+
+    pub along_on : {Q : ℕ → Type 0} → (Next t e j b.at → P j → Q b.at) → Along t e b Q
+    along_on f =
+        record { same = g.same ∙ w.same; ends = g.ends ∙ w.ends; so = f along_next along_at.1 }
+
+-- among whole subtrees the next sibling is behind node j and what is below it
+pub next_at : {t : List ℕ} {e j n : ℕ} → Next t e j n → Part t j e → n ≡ j + size_at t j
+next_at x p = x.on (sized p x.within) (ended p x.within)
+
+-- What is left of the walk are whole subtrees.
+pub record Left (t : List ℕ) (e : ℕ) (P : ℕ → Type 0) (j : ℕ) : Type 0 where
+  pub part : Part t j e
+  pub so : P j
+
+abbrev pub Walked : List ℕ → ℕ → SiblingWalk → (ℕ → Type 0) → Type 0
+Walked t e w P = Along t e w (Left t e P)
+
+module _ {t : List ℕ} {e : ℕ} {P : ℕ → Type 0} where
+  pub walk_start : {i : ℕ} {v w : SiblingWalk} → w ≡ v → (v.t.now ≡ t) × (v.at ≡ i) × (v.end ≡ e) → Part t i e → P i → Walked t e w P
+  walk_start is v p q = along_start is v (record { part = p; so = q })
+
+  pub walk_end : {a : SiblingWalk} → Walked t e a P → a.end ≤ a.at → (e ≤ a.at) × P a.at
+  walk_end w h = (omega (arith, w.ends), w.so.so)
+
+  module _ {a b : SiblingWalk} {j : ℕ} (w : Walked t e a P) (g : Goes a j b) where
+    pub walk_at : Part t j e × (j < e) × P j
+    walk_at = let h = along_at w g in (h.1.part, h.0, h.1.so)
+
+    pub walk_on : {Q : ℕ → Type 0} → (Part t j e → j < e → P j → Q (j + size_at t j)) → Walked t e b Q
+    walk_on {Q} f =
+        along_on w g (λ x h. record { part = rw (next_at x h.part) (rest h.part x.within); so = rw (next_at x h.part) (f h.part x.within h.so) })

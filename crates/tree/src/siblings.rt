@@ -1,0 +1,47 @@
+// A walk over siblings: each node once, and on by its size.
+ghost use Rattle.std.specs.Prelude.{◌≡◌, ◌-◌};
+ghost use Rattle.std.specs.Iterator.{at_most};
+ghost use Rattle.tree.specs.code.Siblings.{goes};
+
+use crate::bytes::size_at;
+
+// The siblings from node `at` up to `end`. Bytes that are no tree are gone through too: every step goes on, and none past the end.
+#[derive(Clone, Copy)]
+pub struct SiblingWalk<'a> {
+    t: &'a [u8],
+    at: usize,
+    end: usize,
+}
+
+pub fn siblings(t: &[u8], i: usize, e: usize) -> SiblingWalk<'_>
+    ensures { (result.t.now ≡ t.now) × (result.at ≡ i) × (result.end ≡ e) }
+{
+    SiblingWalk { t, at: i, end: e }
+}
+
+impl SiblingWalk<'_> {
+    // The node where the walk stands: the sibling that comes next, or the end.
+    pub fn at(&self) -> usize
+        ensures { result ≡ self.now.at }
+    {
+        self.at
+    }
+}
+
+impl Iterator for SiblingWalk<'_> {
+    type Item = usize;
+
+    ghost next_gives = { goes };
+
+    ghost remaining = { λ s. at_most (s.end - s.at) };
+
+    fn next(&mut self) -> Option<usize> {
+        let (here, end) = (self.at, self.end);
+        if end <= here {
+            return None;
+        }
+        let size = size_at(self.t, here);
+        self.at = if size == 0 || end - here <= size { end } else { here + size };
+        Some(here)
+    }
+}
