@@ -248,8 +248,8 @@ later-loop-i-init t c =
     let m = c.size_at-2.ensures.0 in (
       rw n refl,
       walk_start c.into_iter-i-iterator.ensures.into_iter_gives c.siblings-i-items.ensures
-        (rw (n, m) (below_rest c.requires.2 c.requires.0 c.requires.1))
-        (omega (arith, c.requires.0), c.requires.3, refl, rw (n, m) (λ v y g. g)),
+          (rw (n, m) (below_rest c.requires.2 c.requires.0 c.requires.1))
+          (omega (arith, c.requires.0), c.requires.3, refl, rw (n, m) (λ v y g. g)),
     )
 
 pub later-clause-s-requires : goal.later-clause-s-requires
@@ -446,4 +446,3 @@ over-returns-in_default t c = goes_as (over_none _ _ c.requires.1 (sym c.in_defa
 
 pub bound-returns-in_default : goal.bound-returns-in_default
 bound-returns-in_default t c = goes_as (bound_none _ _ c.requires.1 (sym c.in_default.is ∙ c.requires.0)) (skips c.requires.2)
-
