@@ -50,7 +50,7 @@ pub fn is_fail(t: &[u8], fail: usize, i: usize, e: usize) -> bool
     let mut rest = siblings(t, i, e);
     // What is below node j ends where the rest begins.
     while let Some(j) = rest.next() {
-        if is_call(t, fail, j, rest.at()) {
+        if is_call(t, fail, j, rest.at) {
             return true;
         }
     }

@@ -8,24 +8,15 @@ use crate::bytes::size_at;
 // The siblings from node `at` up to `end`. Bytes that are no tree are gone through too: every step goes on, and none past the end.
 #[derive(Clone, Copy)]
 pub struct SiblingWalk<'a> {
-    t: &'a [u8],
-    at: usize,
-    end: usize,
+    pub t: &'a [u8],
+    pub at: usize,
+    pub end: usize,
 }
 
 pub fn siblings(t: &[u8], i: usize, e: usize) -> SiblingWalk<'_>
     ensures { (result.t.now ≡ t.now) × (result.at ≡ i) × (result.end ≡ e) }
 {
     SiblingWalk { t, at: i, end: e }
-}
-
-impl SiblingWalk<'_> {
-    // The node where the walk stands: the sibling that comes next, or the end.
-    pub fn at(&self) -> usize
-        ensures { result ≡ self.now.at }
-    {
-        self.at
-    }
 }
 
 impl Iterator for SiblingWalk<'_> {
@@ -41,7 +32,11 @@ impl Iterator for SiblingWalk<'_> {
             return None;
         }
         let size = size_at(self.t, here);
-        self.at = if size == 0 || end - here <= size { end } else { here + size };
+        self.at = if size == 0 || end - here <= size {
+            end
+        } else {
+            here + size
+        };
         Some(here)
     }
 }

@@ -1,4 +1,4 @@
-use mathlib.Core.Path.{refl, ◌∙◌}
+use mathlib.Core.Path.{refl}
 use native.Mathlib.Omega.{arith}
 use Rattle.tree.proofs.Walked.{next_at, along_start, along_at, along_next, along_on, along_end}
 use Rattle.fail.proofs.Laws.{called_end, called_here, called_next}
@@ -8,18 +8,18 @@ pub loop-j-init : goal.loop-j-init
 loop-j-init c = along_start refl c.siblings-rest.ensures (λ p. (p, refl))
 
 pub is_call-requires : goal.is_call-requires
-is_call-requires c = let x = along_next c.loop-j.invariant c.in-Some.ensures.steps in omega (arith, x.further, c.at.ensures)
+is_call-requires c = let x = along_next c.loop-j.invariant c.in-Some.ensures.steps in omega (arith, x.further)
 
 pub returns-then-is_call : goal.returns-then-is_call
 returns-then-is_call c =
     let h = along_at c.loop-j.invariant c.in-Some.ensures.steps in
     let x = along_next c.loop-j.invariant c.in-Some.ensures.steps in
-    called_here c.args.fail (λ p. c.at.ensures ∙ next_at x p) c.is_call.ensures h.1 h.0 c.if-is_call.true
+    called_here c.args.fail (next_at x) c.is_call.ensures h.1 h.0 c.if-is_call.true
 
 pub loop-j-preserved : goal.loop-j-preserved
 loop-j-preserved c =
     along_on c.loop-j.invariant c.in-Some.ensures.steps (λ x h.
-      rw (c.at.ensures) at (called_next c.args.fail (λ p. c.at.ensures ∙ next_at x p) c.is_call.ensures h x.within c.if-is_call.false))
+    called_next c.args.fail (next_at x) c.is_call.ensures h x.within c.if-is_call.false)
 
 pub returns : goal.returns
 returns c =

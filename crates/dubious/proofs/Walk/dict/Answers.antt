@@ -9,7 +9,7 @@ use Rattle.dubious.proofs.Walk.dict.Goals as goal
 pub loop-j-init : goal.loop-j-init
 loop-j-init c =
     walk_start c.into_iter-j-iterator.ensures.into_iter_gives c.siblings-j-items.ensures c.requires.0
-      (empty c.args.self.now.t.now c.args.i c.requires.0 c.requires.1, omega arith, c.requires.1, going _ _)
+    (empty c.args.self.now.t.now c.args.i c.requires.0 c.requires.1, omega arith, c.requires.1, going _ _)
 
 pub clash-requires : goal.clash-requires
 clash-requires c = (walk_at c.loop-j.invariant c.in-Some.ensures.steps).2.0
@@ -17,7 +17,7 @@ clash-requires c = (walk_at c.loop-j.invariant c.in-Some.ensures.steps).2.0
 pub loop-j-preserved : goal.loop-j-preserved
 loop-j-preserved c =
     walk_on c.loop-j.invariant c.in-Some.ensures.steps (λ q lt h.
-      (onward h.0 q lt, omega (arith, h.1), ended q lt, going_on h.3 _ _ c.clash.ensures (dict_step c.args.self.now.numbers.now h.0 q h.1 lt)))
+    (onward h.0 q lt, omega (arith, h.1), ended q lt, going_on h.3 _ _ c.clash.ensures (dict_step c.args.self.now.numbers.now h.0 q h.1 lt)))
 
 pub returns : goal.returns
 returns c =

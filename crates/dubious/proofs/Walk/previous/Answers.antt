@@ -6,7 +6,7 @@ use Rattle.dubious.proofs.Walk.previous.Goals as goal
 pub loop-m-init : goal.loop-m-init
 loop-m-init c =
     walk_start c.into_iter-m-iterator.ensures.into_iter_gives c.siblings-m-items.ensures c.requires
-      (scan_start c.args.self.now.numbers.now c.args.self.now.t.now c.args.j c.args.i)
+    (scan_start c.args.self.now.numbers.now c.args.self.now.t.now c.args.j c.args.i)
 
 pub loop-m-preserved-then-is_equal_key : goal.loop-m-preserved-then-is_equal_key
 loop-m-preserved-then-is_equal_key c =

@@ -41,7 +41,7 @@ in_list-reachable-aborts-requires t c =
 pub in_list-loop-j-preserved : goal.in_list-loop-j-preserved
 in_list-loop-j-preserved t c =
     walk_on c.loop-j.invariant c.in-Some.ensures.steps (λ p lt h.
-      let x = list_again (is_name c.args.fail) p lt c.loop-j.aborts c.if-aborts.false h.1 h.2 c.reachable-aborts.ensures in (omega (arith, h.0), x.0, x.1))
+    let x = list_again (is_name c.args.fail) p lt c.loop-j.aborts c.if-aborts.false h.1 h.2 c.reachable-aborts.ensures in (omega (arith, h.0), x.0, x.1))
 
 pub in_list-returns-then-aborts : goal.in_list-returns-then-aborts
 in_list-returns-then-aborts t c =

@@ -63,8 +63,8 @@ visit-step-requires t c =
 pub visit-loop-c-preserved : goal.visit-loop-c-preserved
 visit-loop-c-preserved t c =
     walk_on c.loop-c.invariant c.in-Some.ensures.steps (λ p lt h.
-      let f : c.step.new.self.t.now ≡ c.args.self.now.t.now = c.step.ensures.file ∙ h.1.file in
-      (omega (arith, h.0), walk_goes c.step.new.self (λ (u : List ℕ). at (step (meant c.loop-c.ask)) u c.in-Some.c) _ h.1 (visit_next c.args.self.now.t.now (meant c.loop-c.ask) (meant c.after-ask.result) p lt (rw f at c.role_at.ensures.0) c.after-ask.ensures refl) c.step.ensures))
+    let f : c.step.new.self.t.now ≡ c.args.self.now.t.now = c.step.ensures.file ∙ h.1.file in
+    (omega (arith, h.0), walk_goes c.step.new.self (λ (u : List ℕ). at (step (meant c.loop-c.ask)) u c.in-Some.c) _ h.1 (visit_next c.args.self.now.t.now (meant c.loop-c.ask) (meant c.after-ask.result) p lt (rw f at c.role_at.ensures.0) c.after-ask.ensures refl) c.step.ensures))
 
 pub visit-returns : goal.visit-returns
 visit-returns t c =

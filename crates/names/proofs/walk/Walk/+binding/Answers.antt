@@ -15,10 +15,10 @@ use Rattle.names.proofs.walk.Walk.+binding.Goals as goal
 
 pub bind-loop-i-init : goal.bind-loop-i-init
 bind-loop-i-init t c = (
-      ap (λ (z : ℕ). c.args.c + z) c.size_at.ensures.0,
-      walk_start c.into_iter-i-iterator.ensures.into_iter_gives c.siblings-i-items.ensures (kids_as c.args.self.now.t.now c.args.c _ c.size_at.ensures.0 c.requires.0)
-        (omega arith, c.requires.1, refl, λ d v y g. goes_as (names_as c.args.self.now.t.now c.args.c _ c.size_at.ensures.0 (number c.args.role) (used_by c.args.binding)) g),
-    )
+  ap (λ (z : ℕ). c.args.c + z) c.size_at.ensures.0,
+  walk_start c.into_iter-i-iterator.ensures.into_iter_gives c.siblings-i-items.ensures (kids_as c.args.self.now.t.now c.args.c _ c.size_at.ensures.0 c.requires.0)
+      (omega arith, c.requires.1, refl, λ d v y g. goes_as (names_as c.args.self.now.t.now c.args.c _ c.size_at.ensures.0 (number c.args.role) (used_by c.args.binding)) g),
+)
 
 pub bind-bind_one-s-requires : goal.bind-bind_one-s-requires
 bind-bind_one-s-requires t c =
@@ -30,7 +30,7 @@ bind-loop-i-preserved t c =
     let g = c.bind_one-s.ensures in (
       c.loop-i.invariant.0,
       walk_on c.loop-i.invariant.1 c.in-Some.ensures.steps (λ p lt h.
-        (omega (arith, h.0), goes_fits (g 0), omega (arith, h.2), λ d v y q. h.3 d v y (names_on (number c.args.role) (used_by c.args.binding) p lt (g d) q))),
+          (omega (arith, h.0), goes_fits (g 0), omega (arith, h.2), λ d v y q. h.3 d v y (names_on (number c.args.role) (used_by c.args.binding) p lt (g d) q))),
     )
 
 pub bind-returns : goal.bind-returns

@@ -132,8 +132,8 @@ later-loop-i-init t c =
     let m = c.size_at-2.ensures.0 in (
       rw n refl,
       walk_start c.into_iter-i-iterator.ensures.into_iter_gives c.siblings-i-items.ensures
-        (rw (n, m) (below_rest c.requires.2 c.requires.0 c.requires.1))
-        (omega (arith, c.requires.0), c.requires.3, refl, rw (n, m) (λ v y g. g)),
+          (rw (n, m) (below_rest c.requires.2 c.requires.0 c.requires.1))
+          (omega (arith, c.requires.0), c.requires.3, refl, rw (n, m) (λ v y g. g)),
     )
 
 pub later-clause-s-requires : goal.later-clause-s-requires

@@ -18,7 +18,7 @@ pub loop-c-preserved : goal.loop-c-preserved
 loop-c-preserved c =
     let g : c.stands.result ≡ in_class (slot_of (c.args.k) (role_at (c.args.self.now.t.now) c.in-Some.c)).class (kind_at (c.args.self.now.t.now) c.in-Some.c) = c.stands.ensures ∙ (cc (c.slot_class.ensures, c.kind_at.ensures.0, c.role_at.ensures.0)) in
     along_on c.loop-c.invariant c.in-Some.ensures.steps (λ x h.
-      rw (kids_on c.args.self.now.sized x) (stand_yes (c.args.self.now.t.now) (c.args.k) c.in-Some.c (c.args.self.now.end) c.args.self.now.sized x.within (sym g ∙ c.if-not-stands.false) ∙ h))
+    rw (kids_on c.args.self.now.sized x) (stand_yes (c.args.self.now.t.now) (c.args.k) c.in-Some.c (c.args.self.now.end) c.args.self.now.sized x.within (sym g ∙ c.if-not-stands.false) ∙ h))
 
 pub returns : goal.returns
 returns c =

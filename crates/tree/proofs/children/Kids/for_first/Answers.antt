@@ -14,7 +14,7 @@ returns-then-role_at c =
 pub loop-c-preserved : goal.loop-c-preserved
 loop-c-preserved c =
     along_on c.loop-c.invariant c.in-Some.ensures.steps (λ x h.
-      rw (kids_on c.args.self.now.sized x) (for_no (c.args.self.now.t.now) 0 c.in-Some.c (c.args.self.now.end) c.args.self.now.sized x.within (λ q. c.if-role_at.false (c.role_at.ensures.0 ∙ q)) ∙ h))
+    rw (kids_on c.args.self.now.sized x) (for_no (c.args.self.now.t.now) 0 c.in-Some.c (c.args.self.now.end) c.args.self.now.sized x.within (λ q. c.if-role_at.false (c.role_at.ensures.0 ∙ q)) ∙ h))
 
 pub returns : goal.returns
 returns c =
