@@ -138,6 +138,7 @@ fn bytes_of(o: Result<Sizes, Refusal>) -> usize
     o.map_or(0, |n| n.bytes)
 }
 
+// Kept: not one function with call, since it lends a room more and its answer is of another type; they share words_of and lay.
 fn log_call(
     t: &[u8],
     mode: Mode,
