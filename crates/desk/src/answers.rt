@@ -1,12 +1,14 @@
-// Answers, each ended by a line `--`. Each function tells whether the next request is to be read.
-ghost use Rattle.std.specs.Prelude.{◌+◌, ◌≤◌, min, ◌≡◌, length};
+// Answers, each ended by a line `--`.
+ghost use Rattle.std.specs.Prelude.{◌+◌, ◌≤◌, ◌≡◌, ◌++◌, length};
 ghost use Rattle.tree.specs.code.Numbers.{Starts};
-ghost use Rattle.sarif_log.specs.Pieces.{piece_most};
+ghost use Rattle.page.specs.Page.{Wrote};
 ghost use Rattle.desk.specs.Choices.{mode_of};
-ghost use Rattle.desk.specs.Handed.{list_answer, refusal_answer, log_piece, Lists, Holds};
+ghost use Rattle.desk.specs.Handed.{last_line, list_answer, refusal_answer, log_piece, Lists, Holds};
 
-use crate::reading::{ALL, Rooms};
-use rules::{CODES, Outcome, Refusal, WIDTH};
+use crate::choices::Choices;
+use crate::reading::Sizes;
+use page::Writer;
+use rules::{Answer, CODES, Refusal, WIDTH, WORK_WORDS};
 
 // The words of 10,240 records: no valid tree has more.
 pub const ANSWER: usize = WIDTH * 10240;
@@ -14,22 +16,17 @@ pub const ANSWER: usize = WIDTH * 10240;
 // Bytes for every text of a call with that much answer room, or every piece of a log, and for the last line.
 pub const PAGE: usize = 11 * ANSWER + sarif_log::PIECE;
 
-// Nothing is kept back: a write goes to standard output at once.
-pub fn say<P: Print + Eprint>(rt: &P, s: &[u8]) -> bool {
-    if rt.write_all(s).is_ok() {
-        return true;
-    }
-    let _ = rt.eprintln("desk: standard output can't be written");
-    false
-}
+// No request is read after this one: why not is said.
+#[derive(Clone, Copy, Debug, PartialEq, Eq)]
+pub struct Stop;
 
-pub fn least(a: usize, b: usize) -> usize
-    ensures { result ≡ min a b }
-{
-    if a < b {
-        return a;
+// Nothing is kept back: a write goes to standard output at once.
+pub fn say<P: Print + Eprint>(rt: &P, s: &[u8]) -> Result<(), Stop> {
+    if rt.write_all(s).is_err() {
+        let _ = rt.eprintln("desk: standard output can't be written");
+        return Err(Stop);
     }
-    b
+    Ok(())
 }
 
 // ---- bytes handed to a write call: a list, the line of a refusal, a piece of a log
@@ -37,180 +34,163 @@ pub fn least(a: usize, b: usize) -> usize
 fn hand_list<P: Print + Eprint>(
     rt: &P,
     s: &[u8],
-    choices: usize,
+    choices: Choices,
     t: &[u8],
     work: &[u16],
     answer: &[u32],
-) -> bool
-    requires { s.now ≡ list_answer choices t.now work.now answer.now }
+) -> Result<(), Stop>
+    requires { s.now ≡ list_answer choices.bits t.now work.now answer.now }
 {
     say(rt, s)
 }
 
-fn hand_refusal<P: Print + Eprint>(rt: &P, s: &[u8], why: Refusal) -> bool
+fn hand_refusal<P: Print + Eprint>(rt: &P, s: &[u8], why: Refusal) -> Result<(), Stop>
     requires { s.now ≡ refusal_answer why }
 {
     say(rt, s)
 }
 
-fn hand_piece<P: Print + Eprint>(rt: &P, s: &[u8], choices: usize, t: &[u8], k: usize) -> bool
-    requires { s.now ≡ log_piece choices t.now k }
+fn hand_piece<P: Print + Eprint>(
+    rt: &P,
+    s: &[u8],
+    choices: Choices,
+    t: &[u8],
+    k: usize,
+) -> Result<(), Stop>
+    requires { s.now ≡ log_piece choices.bits t.now k }
 {
     say(rt, s)
 }
 
 // ---- answers
 
-fn refused<P: Print + Eprint>(rt: &P, page: &mut [u8], why: Refusal) -> bool
-    requires { piece_most ≤ length page.old }
+// Ends an answer of so many bytes.
+fn ended(page: &mut [u8], count: usize) -> usize
+    ensures { Wrote page.old count page.new result 3 (λ rest. last_line ++ rest) }
 {
-    let a = text::refused(page, why);
-    let b = page::raw(page, a, b"--\n");
-    hand_refusal(rt, &page[..b], why)
+    let mut w = Writer { out: page, count };
+    w.raw(b"--\n");
+    w.count
 }
 
-fn list<P: Print + Eprint>(
-    rt: &P,
-    t: &[u8],
-    choices: usize,
-    work: &mut [u16],
-    answer: &mut [u32],
-    page: &mut [u8],
-) -> bool
-    requires { Holds page.old answer.old }
-{
-    let mode = crate::choices::mode(choices);
-    let a = text::text(t, mode, work, answer, crate::choices::tally(choices), page);
-    let b = page::raw(page, a, b"--\n");
-    hand_list(rt, &page[..b], choices, t, work, answer)
+fn refused<P: Print + Eprint>(rt: &P, page: &mut [u8; PAGE], why: Refusal) -> Result<(), Stop> {
+    let count = text::refused(page, why);
+    let end = ended(page, count);
+    hand_refusal(rt, &page[..end], why)
 }
 
-fn piece<P: Print + Eprint>(
-    rt: &P,
-    page: &mut [u8],
-    choices: usize,
-    t: &[u8],
-    starts: &[usize; 512],
-    list: &[u32],
+// What a log is made of: the list of a tree file, the first n records of a room.
+#[derive(Clone, Copy)]
+struct Log<'a> {
+    choices: Choices,
+    t: &'a [u8],
+    starts: &'a [usize; 512],
+    list: &'a [u32],
     n: usize,
     tally: [usize; CODES],
-    k: usize,
-) -> bool
-    requires { Lists (mode_of choices) t.now list.now n tally × Starts t.now starts.now × (k ≤ n + 1) × (piece_most ≤ length page.old) }
-{
-    let got = sarif_log::piece(page, t, starts, list, n, tally, k);
-    hand_piece(rt, &page[..got], choices, t, k)
+    ghost lists: { Lists (mode_of choices.bits) t.now list.now n tally },
+    ghost begun: { Starts t.now starts.now },
 }
 
-// One piece after the other.
-fn pieces<P: Print + Eprint>(
-    rt: &P,
-    page: &mut [u8],
-    choices: usize,
-    t: &[u8],
-    starts: &[usize; 512],
-    list: &[u32],
-    n: usize,
-    tally: [usize; CODES],
-) -> bool
-    requires { Lists (mode_of choices) t.now list.now n tally × Starts t.now starts.now × (piece_most ≤ length page.old) }
-{
-    let mut k = 0;
-    while k <= n + 1 {
-        if !piece(rt, page, choices, t, starts, list, n, tally, k) {
-            return false;
+impl Log<'_> {
+    fn piece<P: Print + Eprint>(&self, rt: &P, page: &mut [u8; PAGE], k: usize) -> Result<(), Stop>
+        requires { k ≤ self.now.n + 1 }
+    {
+        let got = sarif_log::piece(page, self.t, self.starts, self.list, self.n, self.tally, k);
+        hand_piece(rt, &page[..got], self.choices, self.t, k)
+    }
+
+    // One piece after the other.
+    fn pieces<P: Print + Eprint>(&self, rt: &P, page: &mut [u8; PAGE]) -> Result<(), Stop> {
+        for k in 0..=self.n + 1 {
+            self.piece(rt, page, k)?;
         }
-        k += 1;
+        say(rt, b"--\n")
     }
-    say(rt, b"--\n")
-}
 
-// The log of a list, where the output room that was asked for holds it.
-fn measured<P: Print + Eprint>(
-    rt: &P,
-    page: &mut [u8],
-    choices: usize,
-    t: &[u8],
-    starts: &[usize; 512],
-    list: &[u32],
-    n: usize,
-    tally: [usize; CODES],
-    other: usize,
-) -> bool
-    requires { Lists (mode_of choices) t.now list.now n tally × Starts t.now starts.now × (piece_most ≤ length page.old) }
-{
-    let needed = sarif_log::log(&mut page[..0], t, starts, list, n, tally);
-    if other < needed {
-        return refused(rt, page, Refusal::OtherRoom(needed));
+    // How many bytes the whole log has.
+    fn size(&self) -> usize {
+        sarif_log::log(&mut [], self.t, self.starts, self.list, self.n, self.tally)
     }
-    pieces(rt, page, choices, t, starts, list, n, tally)
-}
 
-// A log is measured only where an output room was asked for: the program has one for every log, a piece at a time.
-fn logged<P: Print + Eprint>(
-    rt: &P,
-    page: &mut [u8],
-    choices: usize,
-    t: &[u8],
-    list: &[u32],
-    n: usize,
-    tally: [usize; CODES],
-    other: usize,
-) -> bool
-    requires { Lists (mode_of choices) t.now list.now n tally × (piece_most ≤ length page.old) }
-{
-    let starts = tree::lookup::starts(t);
-    if other < ALL {
-        return measured(rt, page, choices, t, &starts, list, n, tally, other);
-    }
-    pieces(rt, page, choices, t, &starts, list, n, tally)
-}
-
-fn log<P: Print + Eprint>(
-    rt: &P,
-    t: &[u8],
-    choices: usize,
-    other: usize,
-    work: &mut [u16],
-    answer: &mut [u32],
-    page: &mut [u8],
-) -> bool
-    requires { piece_most ≤ length page.old }
-{
-    let a = lint::lint(t, crate::choices::mode(choices), work, answer);
-    let o = a.outcome;
-    let counts = a.tally;
-    match o {
-        Ok(n) => logged(rt, page, choices, t, answer, n, counts, other),
-        Err(why) => refused(rt, page, why),
+    // The log, where the output room that was asked for holds it: the program has one for every log, a piece at a time.
+    fn measured<P: Print + Eprint>(
+        &self,
+        rt: &P,
+        page: &mut [u8; PAGE],
+        output: Option<usize>,
+    ) -> Result<(), Stop> {
+        if let Some(room) = output {
+            let needed = self.size();
+            if room < needed {
+                return refused(rt, page, Refusal::OtherRoom(needed));
+            }
+        }
+        self.pieces(rt, page)
     }
 }
 
-// A list or a log, as the choices say, in rooms of the sizes that were asked for.
-pub fn serve<P: Print + Eprint>(
-    rt: &P,
-    t: &[u8],
-    choices: usize,
-    rooms: Rooms,
-    work: &mut [u16],
-    answer: &mut [u32],
-    page: &mut [u8],
-) -> bool
-    requires { Holds page.old answer.old }
-{
-    let w = least(rooms.work, work.len());
-    let r = least(rooms.answer, answer.len());
-    let other = rooms.other;
-    if crate::choices::log(choices) {
-        return log(
-            rt,
-            t,
-            choices,
-            other,
-            &mut work[..w],
-            &mut answer[..r],
-            page,
-        );
+// A request for the list of a tree file, or for its log.
+#[derive(Clone, Copy)]
+pub struct Request<'a> {
+    pub t: &'a [u8],
+    pub choices: Choices,
+    pub lent: Sizes,
+}
+
+impl Request<'_> {
+    fn list<P: Print + Eprint>(
+        &self,
+        rt: &P,
+        work: &mut [u16],
+        answer: &mut [u32],
+        page: &mut [u8; PAGE],
+    ) -> Result<(), Stop>
+        requires { Holds page.old answer.old }
+    {
+        let mode = self.choices.mode();
+        let count = text::text(self.t, mode, work, answer, self.choices.tally(), page);
+        let end = ended(page, count);
+        hand_list(rt, &page[..end], self.choices, self.t, work, answer)
     }
-    list(rt, t, choices, &mut work[..w], &mut answer[..r], page)
+
+    fn log<P: Print + Eprint>(
+        &self,
+        rt: &P,
+        work: &mut [u16],
+        answer: &mut [u32],
+        page: &mut [u8; PAGE],
+    ) -> Result<(), Stop> {
+        let Answer { outcome, tally } = lint::lint(self.t, self.choices.mode(), work, answer);
+        let n = match outcome {
+            Ok(n) => n,
+            Err(why) => return refused(rt, page, why),
+        };
+        let log = Log {
+            choices: self.choices,
+            t: self.t,
+            starts: &tree::lookup::starts(self.t),
+            list: answer,
+            n,
+            tally,
+        };
+        log.measured(rt, page, self.lent.output)
+    }
+
+    // A list or a log, as the choices say, in rooms of the sizes that were asked for.
+    pub fn serve<P: Print + Eprint>(
+        &self,
+        rt: &P,
+        work: &mut [u16; WORK_WORDS],
+        answer: &mut [u32; ANSWER],
+        page: &mut [u8; PAGE],
+    ) -> Result<(), Stop> {
+        let work = &mut work[..self.lent.work];
+        let answer = &mut answer[..self.lent.answer];
+        if self.choices.log() {
+            self.log(rt, work, answer, page)
+        } else {
+            self.list(rt, work, answer, page)
+        }
+    }
 }

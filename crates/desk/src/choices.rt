@@ -4,61 +4,63 @@ ghost use Rattle.desk.specs.Choices.{asks, mode_of, log_asked, tally_asked, room
 
 use tree::Mode;
 
-fn asks(choices: usize, bit: usize) -> bool
-    requires { 1 ≤ bit }
-    ensures { result ≡ asks choices bit }
-{
-    choices / bit % 2 == 1
+#[derive(Clone, Copy, Debug, PartialEq, Eq)]
+pub struct Choices {
+    pub bits: usize,
 }
 
-pub fn mode(choices: usize) -> Mode
-    ensures { result ≡ mode_of choices }
-{
-    if asks(choices, 1) {
-        return Mode::Strict;
+impl From<usize> for Choices {
+    fn from(bits: usize) -> Self {
+        Choices { bits }
     }
-    Mode::Ordinary
 }
 
-pub fn log(choices: usize) -> bool
-    ensures { result ≡ log_asked choices }
-{
-    asks(choices, 2)
-}
-
-pub fn tally(choices: usize) -> bool
-    ensures { result ≡ tally_asked choices }
-{
-    asks(choices, 16384)
-}
-
-pub fn rooms(choices: usize) -> bool
-    ensures { result ≡ rooms_follow choices }
-{
-    asks(choices, 32768)
-}
-
-// An accepted list, or a second script's nodes.
-pub fn second(choices: usize) -> bool
-    ensures { result ≡ second_follows choices }
-{
-    if asks(choices, 8) {
-        return true;
+impl Choices {
+    fn asks(self, bit: usize) -> bool
+        requires { 1 ≤ bit }
+        ensures { result ≡ asks self.bits bit }
+    {
+        self.bits / bit % 2 == 1
     }
-    asks(choices, 32)
-}
 
-pub fn known(choices: usize) -> bool
-    ensures { result ≡ known choices }
-{
-    if 4 <= choices % 16384 {
-        return false;
+    pub fn mode(self) -> Mode
+        ensures { result ≡ mode_of self.bits }
+    {
+        if self.asks(1) {
+            Mode::Strict
+        } else {
+            Mode::Ordinary
+        }
     }
-    if 4 <= choices / 16384 {
-        return false;
+
+    pub fn log(self) -> bool
+        ensures { result ≡ log_asked self.bits }
+    {
+        self.asks(2)
     }
-    if log(choices) {
-        return !tally(choices);
+
+    pub fn tally(self) -> bool
+        ensures { result ≡ tally_asked self.bits }
+    {
+        self.asks(16384)
     }
-    true
+
+    pub fn rooms(self) -> bool
+        ensures { result ≡ rooms_follow self.bits }
+    {
+        self.asks(32768)
+    }
+
+    // An accepted list, or a second script's nodes.
+    pub fn second(self) -> bool
+        ensures { result ≡ second_follows self.bits }
+    {
+        self.asks(8) || self.asks(32)
+    }
+
+    pub fn known(self) -> bool
+        ensures { result ≡ known self.bits }
+    {
+        self.bits % 16384 < 4 && self.bits / 16384 < 4 && !(self.log() && self.tally())
+    }
 }

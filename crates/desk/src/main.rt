@@ -2,10 +2,9 @@
 // framing. No contract can say what is read or written; what a write call is handed of a tree is required where it is handed (answers.rt).
 #![tactic(auto)]
 
-ghost use Rattle.desk.specs.Handed.{Holds};
-
-use crate::answers::{ANSWER, PAGE, least, say, serve};
-use crate::reading::{Input, LONGEST, Word};
+use crate::answers::{ANSWER, PAGE, Request, Stop, say};
+use crate::choices::Choices;
+use crate::reading::{Cut, LONGEST};
 use rules::WORK_WORDS;
 use std::io::Read;
 
@@ -13,109 +12,75 @@ mod answers;
 mod choices;
 mod reading;
 
-fn cut<P: Print + Eprint>(rt: &P) -> bool {
-    say(rt, b"cut short\n--\n");
-    false
+fn cut<P: Print + Eprint>(rt: &P) -> Result<(), Stop> {
+    say(rt, b"cut short\n--\n")?;
+    Err(Stop)
 }
 
-fn no_tree<P: Print + Eprint>(rt: &P, got: Input) -> bool {
-    match got {
-        Input::Cut => cut(rt),
-        Input::Long => say(rt, b"too long\n--\n"),
-        Input::Whole(_) => true,
-    }
-}
-
-fn unknown<P: Print + Eprint>(rt: &P, got: Input) -> bool {
-    match got {
-        Input::Cut => cut(rt),
-        Input::Long => say(rt, b"no such request\n--\n"),
-        Input::Whole(_) => say(rt, b"no such request\n--\n"),
-    }
-}
-
-// A request whose choices are read: whether to go on.
-fn asked<R: Read, P: Print + Eprint>(
-    from: &mut R,
-    rt: &P,
-    choices: usize,
-    bytes: &mut [u8],
-    work: &mut [u16],
-    answer: &mut [u32],
-    page: &mut [u8],
-) -> bool
-    requires { Holds page.old answer.old }
-{
-    let rooms = crate::reading::sizes(from, choices);
-    let got = crate::reading::inputs(from, bytes, choices);
-    if !crate::choices::known(choices) {
-        return unknown(rt, got);
-    }
-    let Input::Whole(n) = got else {
-        return no_tree(rt, got);
-    };
-    let long = least(n, bytes.len());
-    serve(rt, &bytes[..long], choices, rooms, work, answer, page)
-}
-
-fn over<R: Read, P: Eprint>(from: &mut R, rt: &P) -> bool {
+fn over<R: Read, P: Eprint>(from: &mut R, rt: &P) -> Result<(), Stop> {
     if input::unreadable(from) {
         let _ = rt.eprintln("desk: standard input can't be read");
     }
-    false
+    Err(Stop)
 }
 
-// The next request, if there is one more.
-fn next<R: Read, P: Print + Eprint>(
-    from: &mut R,
-    rt: &P,
-    bytes: &mut [u8],
-    work: &mut [u16],
-    answer: &mut [u32],
-    page: &mut [u8],
-) -> bool
-    requires { Holds page.old answer.old }
-{
-    let w = crate::reading::next(from);
-    match w {
-        Word::Is(choices) => asked(from, rt, choices, bytes, work, answer, page),
-        Word::Cut => cut(rt),
-        Word::Over => over(from, rt),
+// What a request is read into, and what it is answered in.
+#[derive(Drop)]
+struct Desk {
+    bytes: [u8; LONGEST],
+    work: [u16; WORK_WORDS],
+    answer: [u32; ANSWER],
+    page: [u8; PAGE],
+}
+
+impl Desk {
+    // A request whose choices are read.
+    fn asked<R: Read, P: Print + Eprint>(
+        &mut self,
+        from: &mut R,
+        rt: &P,
+        choices: Choices,
+    ) -> Result<(), Stop> {
+        let lent = reading::lent(from, choices);
+        let Ok(input) = reading::inputs(from, &mut self.bytes, choices) else {
+            return cut(rt);
+        };
+        if !choices.known() {
+            return say(rt, b"no such request\n--\n");
+        }
+        let Some(t) = input else {
+            return say(rt, b"too long\n--\n");
+        };
+        let request = Request { t, choices, lent };
+        request.serve(rt, &mut self.work, &mut self.answer, &mut self.page)
     }
-}
 
-// One request after the other.
-fn requests<R: Read, P: Print + Eprint>(
-    from: &mut R,
-    rt: &P,
-    bytes: &mut [u8],
-    work: &mut [u16],
-    answer: &mut [u32],
-    page: &mut [u8],
-)
-    requires { Holds page.old answer.old }
-{
-    let mut left: usize = 18446744073709551615;
-    while 0 < left {
-        left -= 1;
-        if !next(from, rt, bytes, work, answer, page) {
-            return;
+    // The next request, if there is one more.
+    fn next<R: Read, P: Print + Eprint>(&mut self, from: &mut R, rt: &P) -> Result<(), Stop> {
+        match reading::next(from) {
+            Ok(Some(bits)) => self.asked(from, rt, Choices::from(bits)),
+            Ok(None) => over(from, rt),
+            Err(Cut) => cut(rt),
+        }
+    }
+
+    // One request after the other.
+    fn requests<R: Read, P: Print + Eprint>(&mut self, from: &mut R, rt: &P) {
+        for _ in 0..usize::MAX {
+            if self.next(from, rt).is_err() {
+                return;
+            }
         }
     }
 }
 
 // The rooms stand here, once for all requests.
 fn main(rt: HostRuntime) {
-    let mut bytes = [0u8; LONGEST];
-    let mut work = [0u16; WORK_WORDS];
-    let mut answer = [0u32; ANSWER];
-    let mut page = [0u8; PAGE];
-    requests(
-        &mut rt.stdin(),
-        &rt,
-        &mut bytes,
-        &mut work,
-        &mut answer,
-        &mut page,
-    );
+    let mut desk = Desk {
+        bytes: [0; LONGEST],
+        work: [0; WORK_WORDS],
+        answer: [0; ANSWER],
+        page: [0; PAGE],
+    };
+    desk.requests(&mut rt.stdin(), &rt);
 }

@@ -1,133 +1,106 @@
 // Requests as they come from a reader: standard input.
+ghost use Rattle.std.specs.Prelude.{◌*◌, ◌≤◌};
+ghost use Rattle.rules.specs.Record.{width};
+ghost use Rattle.rules.specs.Outcome.{work_words};
 
+use crate::answers::ANSWER;
+use crate::choices::Choices;
+use rules::WORK_WORDS;
 use std::io::Read;
 use tree::bytes::u32_at;
 
 // No valid tree is longer: `file_longest` of tree, proofs/Longest.
 pub const LONGEST: usize = 149515;
 
-// A size above every room that the program has.
-pub const ALL: usize = 4294967295;
-
-// The sizes of the rooms that a request asks to be lent.
-#[derive(Clone, Copy)]
-pub struct Rooms {
+// How much of the program's rooms a request is lent, and the output room that it asks for its log, if it does.
+#[derive(Clone, Copy, Debug, PartialEq, Eq)]
+pub struct Sizes {
     pub work: usize,
     pub answer: usize,
-    pub other: usize,
+    pub output: Option<usize>,
+    ghost work_there: { work ≤ work_words },
+    ghost answer_there: { answer ≤ width * 10240 },
 }
 
-#[derive(Clone, Copy)]
-pub enum Word {
-    Is(usize),
-    Cut,
-    Over,
-}
+// Standard input ended inside a request.
+#[derive(Clone, Copy, Debug, PartialEq, Eq)]
+pub struct Cut;
 
-// An input: so many bytes, or more than any tree has, or less than was announced.
-#[derive(Clone, Copy)]
-pub enum Input {
-    Whole(usize),
-    Long,
-    Cut,
-}
-
-// 32 bits.
-pub fn next<R: Read>(from: &mut R) -> Word {
+// The next 32 bits, if there are more.
+pub fn next<R: Read>(from: &mut R) -> Result<Option<usize>, Cut> {
     let mut four = [0u8; 4];
-    let got = input::read_full(from, &mut four);
-    if got == 4 {
-        return Word::Is(u32_at(&four, 0));
+    match input::read_full(from, &mut four) {
+        0 => Ok(None),
+        4 => Ok(Some(u32_at(&four, 0))),
+        _ => Err(Cut),
     }
-    if got == 0 {
-        return Word::Over;
-    }
-    Word::Cut
 }
 
-fn sizes_read<R: Read>(from: &mut R) -> Rooms {
+// The sizes that follow, or all that there is. Where they are cut short, so is the input after them.
+pub fn lent<R: Read>(from: &mut R, choices: Choices) -> Sizes {
+    if !choices.rooms() {
+        return Sizes {
+            work: WORK_WORDS,
+            answer: ANSWER,
+            output: None,
+        };
+    }
     let mut four = [0u8; 16];
     input::read_full(from, &mut four);
-    Rooms {
-        work: u32_at(&four, 0),
-        answer: u32_at(&four, 4),
-        other: u32_at(&four, 8),
+    Sizes {
+        work: u32_at(&four, 0).min(WORK_WORDS),
+        answer: u32_at(&four, 4).min(ANSWER),
+        output: Some(u32_at(&four, 8)),
     }
 }
 
-// The sizes that follow, or all that there is.
-pub fn sizes<R: Read>(from: &mut R, choices: usize) -> Rooms {
-    if crate::choices::rooms(choices) {
-        return sizes_read(from);
-    }
-    Rooms {
-        work: ALL,
-        answer: ALL,
-        other: ALL,
-    }
+// The length of an input.
+fn length<R: Read>(from: &mut R) -> Result<usize, Cut> {
+    next(from)?.ok_or(Cut)
 }
 
-// Reads over n bytes; whether they were there.
-fn skip<R: Read>(from: &mut R, n: usize) -> bool {
+// Reads over n bytes.
+// Kept: a `while`, since it goes on by what each read gave.
+fn skip<R: Read>(from: &mut R, n: usize) -> Result<(), Cut> {
     let mut left = n;
     while 0 < left {
         let mut some = [0u8; 65536];
         let got = input::take_in(from, &mut some, left);
         if got == 0 {
-            return false;
+            return Err(Cut);
         }
-        if left <= got {
-            return true;
-        }
-        left -= got;
+        left = left.saturating_sub(got);
     }
-    true
+    Ok(())
 }
 
-fn long<R: Read>(from: &mut R, n: usize) -> Input {
-    if skip(from, n) {
-        return Input::Long;
+// An input after its length, unless it has more bytes than any tree.
+fn first<'a, R: Read>(from: &mut R, bytes: &'a mut [u8]) -> Result<Option<&'a [u8]>, Cut> {
+    let n = length(from)?;
+    let Some(room) = bytes.get_mut(..n) else {
+        skip(from, n)?;
+        return Ok(None);
+    };
+    if input::read_full(from, room) < n {
+        return Err(Cut);
     }
-    Input::Cut
+    Ok(Some(room))
 }
 
-fn taken<R: Read>(from: &mut R, bytes: &mut [u8], n: usize) -> Input {
-    if bytes.len() < n {
-        return long(from, n);
-    }
-    if input::take_in(from, bytes, n) < n {
-        return Input::Cut;
-    }
-    Input::Whole(n)
-}
-
-// An input after its length.
-fn first<R: Read>(from: &mut R, bytes: &mut [u8]) -> Input {
-    let w = next(from);
-    match w {
-        Word::Is(n) => taken(from, bytes, n),
-        Word::Cut => Input::Cut,
-        Word::Over => Input::Cut,
-    }
-}
-
-fn second<R: Read>(from: &mut R) -> bool {
-    let w = next(from);
-    match w {
-        Word::Is(n) => skip(from, n),
-        Word::Cut => false,
-        Word::Over => false,
-    }
+fn second<R: Read>(from: &mut R) -> Result<(), Cut> {
+    let n = length(from)?;
+    skip(from, n)
 }
 
 // The first input. A second one is read over: no choice that is known has one.
-pub fn inputs<R: Read>(from: &mut R, bytes: &mut [u8], choices: usize) -> Input {
+pub fn inputs<'a, R: Read>(
+    from: &mut R,
+    bytes: &'a mut [u8],
+    choices: Choices,
+) -> Result<Option<&'a [u8]>, Cut> {
     let got = first(from, bytes);
-    if !crate::choices::second(choices) {
-        return got;
+    if choices.second() {
+        second(from)?;
     }
-    if second(from) {
-        return got;
-    }
-    Input::Cut
+    got
 }

@@ -99,6 +99,9 @@ module _ (ns t : List ℕ) (j : ℕ) where
   unfolding node_head node_spot
   other_here m e xs = clash_other (like_by ns (value_at t m) (value_at t j)) (node_head t m) (node_head t j) (of_j xs) e
 
+  pub scan_start : (i : ℕ) → Scanned i None i
+  scan_start i = record { hit = refl; left = refl }
+
   pub scan_end : (i : ℕ) (old : Option ℕ) (m : ℕ) → Scanned i old m → j ≤ m → clashes ns t i j ≡ doubled ns t old j
   unfolding before
   scan_end i old m s h = sym (rw (keys_past t m j h) at s.left) ∙ s.hit

@@ -20,6 +20,7 @@ use Rattle.rules.specs.Order.{nothing, bindings, bind_of}
 use Rattle.rules.specs.Incompatible.{Deed, defines, repeats, deed_part, defined_names, self_set, Top, assigning, modifying, defining, loading, holding, aside, tops, top_part, deeds}
 use Rattle.rules.proofs.Look.{look_all}
 use Rattle.answer.proofs.Flat.{past, over, split}
+use Rattle.incompatible.specs.Ground.{Low}
 use Rattle.incompatible.specs.Ledger.{named_one, below_one, is_several, goes_in, top_of, deeds_one, top_assign, SelfSet}
 use Rattle.answer.proofs.Bits.{and_false}
 use Rattle.incompatible.proofs.Checks.{not_eqb, below_e, head_is, kind_is, spot_is, kind_missing}
@@ -52,6 +53,9 @@ binds_alike : (k : ℕ) (s : Head) (down : ℕ → List Deed) → (k ≡ 41 → 
 binds_alike k s down =
     look_all (λ n b. (n ≡ 41 → ⊥) → deed_part b s down ≡ deed_part b s (λ v. [])) k bindings nothing
     ((λ n. refl), ((λ n. absurd (n refl)), ((λ n. refl), ((λ n. refl), tt)))) (λ n. refl)
+
+pub fewer : {t : List ℕ} {n m : ℕ} → Low t n → m ≤ n → Low t m
+fewer l h = record { low = λ j k. l.low j (omega arith) }
 
 -- ---- the names of a role
 

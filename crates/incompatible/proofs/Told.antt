@@ -169,6 +169,9 @@ pub record Telling (t : List ℕ) (d₀ : Defined) (s₀ : Sheet) (all : List De
   pub same_room : s.out.ghost_name ≡ s₀.out.ghost_name
   pub then : after left (ledger t d) ≡ after all (ledger t d₀)
 
+pub telling : (t : List ℕ) (d : Defined) (s : Sheet) (all : List Deed) → Telling t d s all d s all
+telling t d s all = record { yet = refl; same_room = refl; then = refl }
+
 pub telling_on : {t : List ℕ} {d₀ d d' : Defined} {s₀ s s' : Sheet} {all zs : List Deed} → Telling t d₀ s₀ all d s zs
     → (xs ys : List Deed) → Does t d s xs d' s' → zs ≡ xs ++ ys → Telling t d₀ s₀ all d' s' ys
 telling_on {t = t} {d = d} {s = s} g xs ys w e =

@@ -5,26 +5,15 @@ ghost use Rattle.std.specs.Counts.{IsPrefixLen};
 
 use std::io::Read;
 
-// One read: 0 at the end, and where it fails.
-fn some<R: Read>(from: &mut R, buf: &mut [u8]) -> usize
-    ensures { IsPrefixLen result buf.new }
-{
-    match from.read(buf) {
-        Ok(n) => n,
-        Err(_) => 0,
-    }
-}
-
-// As many bytes as there are and as the buffer holds.
+// As many bytes as there are and as the buffer holds. A read that fails ends them, as the end does.
+// Kept: a `while`, since it goes on by what each read gave; `read_exact` doesn't tell how many bytes a short input had.
 pub fn read_full<R: Read>(from: &mut R, buf: &mut [u8]) -> usize
     ensures { IsPrefixLen result buf.new }
 {
     let mut done = 0;
-    while done < buf.len() {
-        let n = some(from, &mut buf[done..]);
-        if n == 0 {
-            return done;
-        }
+    while done < buf.len()
+        && let Ok(n @ 1..) = from.read(&mut buf[done..])
+    {
         done += n;
     }
     done
@@ -34,14 +23,11 @@ pub fn read_full<R: Read>(from: &mut R, buf: &mut [u8]) -> usize
 pub fn take_in<R: Read>(from: &mut R, buf: &mut [u8], n: usize) -> usize
     ensures { IsPrefixLen result buf.new }
 {
-    if n <= buf.len() {
-        return read_full(from, &mut buf[..n]);
-    }
-    read_full(from, buf)
+    let many = n.min(buf.len());
+    read_full(from, &mut buf[..many])
 }
 
 // Where a read failed, as of a folder or a closed descriptor, the next read fails too; at the end it gives 0.
 pub fn unreadable<R: Read>(from: &mut R) -> bool {
-    let mut more = [0u8; 1];
-    from.read(&mut more).is_err()
+    from.read(&mut [0]).is_err()
 }

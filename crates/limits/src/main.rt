@@ -4,55 +4,37 @@
 #![tactic(auto)]
 
 use std::io::Read;
-use tree::{Facts, Judged, Refusal};
+use tree::{Facts, Refusal};
 
 // A write that failed isn't told: what is printed is then short, and whoever compares it sees that.
-fn text<P: Print>(rt: &P, s: &[u8]) {
-    let _ = rt.write_all(s);
+fn print_judged<P: Print>(rt: &P, judged: Result<Facts, Refusal>) {
+    let _ = match judged {
+        Ok(
+            Facts {
+                version,
+                nodes,
+                values,
+                names,
+                globals,
+                ..
+            },
+        ) => println!(rt;
+            ": valid, version {version} nodes {nodes} values {values} names {names} globals {globals}"
+        ),
+        Err(why) => println!(rt; ": refused {} {}", why.number(), why.place()),
+    };
 }
 
-fn number<P: Print>(rt: &P, n: usize) {
-    let _ = rt.print(n);
-}
-
-fn print_valid<P: Print>(rt: &P, f: Facts) {
-    text(rt, b": valid, version ");
-    number(rt, f.version);
-    text(rt, b" nodes ");
-    number(rt, f.nodes);
-    text(rt, b" values ");
-    number(rt, f.values);
-    text(rt, b" names ");
-    number(rt, f.names);
-    text(rt, b" globals ");
-    number(rt, f.globals);
-}
-
-fn print_refusal<P: Print>(rt: &P, why: Refusal) {
-    text(rt, b": refused ");
-    number(rt, why.number());
-    text(rt, b" ");
-    number(rt, why.place());
-}
-
-fn print_judged<P: Print>(rt: &P, j: Judged) {
-    match j {
-        Ok(f) => print_valid(rt, f),
-        Err(why) => print_refusal(rt, why),
-    }
-    text(rt, b"\n");
-}
-
-// A label, if there is one more.
-fn label<R: Read, P: Print>(from: &mut R, rt: &P) -> bool {
+// A label, if there is one more, printed.
+fn label<R: Read, P: Print>(from: &mut R, rt: &P) -> Option<()> {
     let mut head = [0u8; 1];
     let mut line = [0u8; 256];
     if input::read_full(from, &mut head) < 1 {
-        return false;
+        return None;
     }
-    let got = input::take_in(from, &mut line, tree::bytes::byte_at(&head, 0));
-    text(rt, &line[..got]);
-    true
+    let got = input::take_in(from, &mut line, usize::from(head[0]));
+    let _ = rt.write_all(&line[..got]);
+    Some(())
 }
 
 // The next n bytes, judged.
@@ -70,10 +52,8 @@ fn length_next<R: Read>(from: &mut R) -> usize {
 }
 
 fn cases<R: Read, P: Print>(from: &mut R, rt: &P) {
-    let mut left: usize = 1000;
-    while 0 < left {
-        left -= 1;
-        if !label(from, rt) {
+    for _ in 0..1000 {
+        if label(from, rt).is_none() {
             return;
         }
         let n = length_next(from);
