@@ -45,7 +45,7 @@ pub kids_on : {t : List ℕ} {c e n : ℕ} → Sized t e → Next t e c n → ki
 kids_on {t} {c} {e} {n} s x = go (dec_lt e (c + size_at t c))
   where
     go : Dec (e < c + size_at t c) → kids_from t n e ≡ kids_from t (c + size_at t c) e
-    go (yes h) = rw (x.past (omega arith), kids_end t e e (omega arith)) (sym (kids_end t (c + size_at t c) e (omega arith)))
+    go (yes h) = rw (kids_end t n e (x.past (omega arith))) (sym (kids_end t (c + size_at t c) e (omega arith)))
     go (no h) = rw (x.on (s c x.within) (omega arith)) refl
 
 module _ (t : List ℕ) (k c e : ℕ) (s : Sized t e) (h : c < e) where

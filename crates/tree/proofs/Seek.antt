@@ -86,5 +86,5 @@ module _ (t : List ℕ) (r : ℕ) where
     where
       go : Dec (0 < size_at t i) → Dec (e < i + size_at t i) → child_of t r i e ≡ child_of t r n e
       go (no z) d = rw (x.stuck (omega arith)) (seek_zero i e q (omega arith) ∙ sym (seek_past e e (omega arith)))
-      go (yes z) (yes h) = rw (x.past (omega arith)) (seek_next i e x.within q ∙ seek_past (i + size_at t i) e (omega arith) ∙ sym (seek_past e e (omega arith)))
+      go (yes z) (yes h) = seek_next i e x.within q ∙ seek_past (i + size_at t i) e (omega arith) ∙ sym (seek_past n e (x.past (omega arith)))
       go (yes z) (no h) = rw (x.on z (omega arith)) (seek_next i e x.within q)

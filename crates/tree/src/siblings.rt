@@ -5,7 +5,7 @@ ghost use Rattle.tree.specs.code.Siblings.{goes};
 
 use crate::bytes::size_at;
 
-// The siblings from node `at` up to `end`. Bytes that are no tree are gone through too: every step goes on, and none past the end.
+// The siblings from node `at` up to `end`. Bytes that are no tree are gone through too: every step goes on.
 #[derive(Clone, Copy)]
 pub struct SiblingWalk<'a> {
     pub t: &'a [u8],
@@ -27,15 +27,15 @@ impl Iterator for SiblingWalk<'_> {
     ghost remaining = { λ s. at_most (s.end - s.at) };
 
     fn next(&mut self) -> Option<usize> {
-        let (here, end) = (self.at, self.end);
-        if end <= here {
+        let here = self.at;
+        if self.end <= here {
             return None;
         }
         let size = size_at(self.t, here);
-        self.at = if size == 0 || end - here <= size {
-            end
+        self.at = if size == 0 {
+            self.end
         } else {
-            here + size
+            here.saturating_add(size)
         };
         Some(here)
     }

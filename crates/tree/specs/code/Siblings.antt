@@ -3,14 +3,13 @@ use Rattle.std.specs.Prelude.{Option, ℕ, ◌≡◌, ◌+◌, ◌≤◌, ◌<�
 use Rattle.tree.specs.Bytes.{size_at}
 use Rattle.tree.specs.declared.siblings.SiblingWalk.{SiblingWalk}
 
--- Among siblings that end at e, n is next to node j: by its size, or the end where the size is 0 or passes it.
+-- Among siblings that end at e, n is next to node j: by its size, or the end where the size is 0.
 pub record Next (t : List ℕ) (e j n : ℕ) : Type 0 where
   pub within : j < e
   pub further : j < n
-  pub bounded : n ≤ e
   pub on : 1 ≤ size_at t j → j + size_at t j ≤ e → n ≡ j + size_at t j
   pub stuck : size_at t j ≡ 0 → n ≡ e
-  pub past : e ≤ j + size_at t j → n ≡ e
+  pub past : e ≤ j + size_at t j → e ≤ n
 
 -- Walk a stood at node j, and goes on as b.
 pub record Goes (a : SiblingWalk) (j : ℕ) (b : SiblingWalk) : Type 0 where
