@@ -48,7 +48,7 @@ pub fn is_fail(t: &[u8], fail: usize, i: usize, e: usize) -> bool
     ensures { Part t.now i e → result ≡ fail_called (λ v. eqb v fail) (forest_of t.now i e) }
 {
     let mut rest = siblings(t, i, e);
-    // What is below node j ends where the rest begins, if not past the end.
+    // Kept: no `for`, since what is below node j ends where the rest begins, if not past the end, and the body reads it.
     while let Some(j) = rest.next() {
         if is_call(t, fail, j, rest.at.min(e)) {
             return true;

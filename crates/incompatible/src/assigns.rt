@@ -165,7 +165,7 @@ impl Defined {
         ensures { Does t.now self.old sheet.old (defined_names 0 (forest_of t.now i e)) self.new sheet.new }
     {
         let mut j = i;
-        // Kept: where the walk goes on is read at j, and no range steps so (d).
+        // Kept: where the walk goes on is read at j, and no range steps so.
         while j < e {
             self.below_at(t, j, sheet);
             j = below_next(t, j);
@@ -230,7 +230,7 @@ impl Defined {
         ensures { Does t.now self.old sheet.old (deeds (forest_of t.now 0 n)) self.new sheet.new }
     {
         let mut i = 0;
-        // Kept: where the walk goes on is read at i, and no range steps so (d).
+        // Kept: where the walk goes on is read at i, and no range steps so.
         while i < n {
             self.stmt(t, i, sheet);
             i = next(t, i);

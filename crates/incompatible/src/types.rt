@@ -16,7 +16,7 @@ use tree::kinds::{Kind, Role};
 use tree::lookup::number_of;
 
 // The value numbers of the name type and of the five types' names.
-// Kept: 65536 for a name that the file has not, since it is no value's number and so compares like any other (d).
+// Kept: 65536 for a name that the file has not, since it is no value's number and so compares like any other.
 #[derive(Clone, Copy)]
 pub(crate) struct Types {
     call: usize,

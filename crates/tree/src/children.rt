@@ -299,7 +299,6 @@ pub(crate) fn check_children(t: &[u8], n: usize, nv: usize) -> Result<(), Refusa
 }
 
 // The first of the siblings from node `from` up to `e` that has the role.
-// Kept: a loop that steps by the sizes that it reads, and ends at a size of 0: nothing is asked of the file.
 pub fn child_of(t: &[u8], role: usize, from: usize, e: usize) -> Option<usize>
     ensures { result ≡ first_child t.now role from e }
 {

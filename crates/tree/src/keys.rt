@@ -60,6 +60,7 @@ fn value_side(t: &[u8], o: usize, w: Spelled) -> Ordering
 }
 
 // By halving: the first of the n values that isn't below w; n where there is none.
+// Kept: a `while`, and that n: its contract's `halved` is this search, step by step.
 fn place(t: &[u8], starts: &[usize; 512], n: usize, w: Spelled) -> usize
     requires { Starts t.now starts.now × (n ≤ 512) × (n ≤ value_count t.now) × Fit w }
     ensures { (result ≡ halved n (short_of (table_of t.now) (valued w))) × (result ≤ n) }

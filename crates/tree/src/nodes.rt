@@ -27,7 +27,8 @@ pub(crate) struct File<'a> {
     ghost each_parent: { Parents t.now says.nodes parents.now },
 }
 
-// The nearest node before i that reaches past it. The search goes from parent to parent, not by ones.
+// The nearest node before i that reaches past it.
+// Kept: a `while`, since it goes from parent to parent, by what the table gives, and not by ones.
 fn parent_from(t: &[u8], par: &[u16; 1024], i: usize) -> usize
     requires { (i < 1024) × Parents t.now i par.now }
     ensures { (result ≡ parent_of t.now i) × (result ≤ i) }
