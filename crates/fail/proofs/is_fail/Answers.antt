@@ -22,9 +22,9 @@ returns-then-is_call c =
 pub loop-j-preserved : goal.loop-j-preserved
 loop-j-preserved c =
     along_on c.loop-j.invariant c.in-Some.ensures.steps (λ x h p.
-      let q = (h p).0 in
-      let m : c.min.result ≡ c.next.new.self.at = omega (arith, next_at x q, ended q x.within) in
-      rw m at (called_next c.args.fail (λ r. omega (arith, next_at x r, ended r x.within)) c.is_call.ensures h x.within c.if-is_call.false p))
+    let q = (h p).0 in
+    let m : c.min.result ≡ c.next.new.self.at = omega (arith, next_at x q, ended q x.within) in
+    rw m at (called_next c.args.fail (λ r. omega (arith, next_at x r, ended r x.within)) c.is_call.ensures h x.within c.if-is_call.false p))
 
 pub returns : goal.returns
 returns c =
