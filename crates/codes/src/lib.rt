@@ -3,7 +3,7 @@
 
 ghost use Rattle.std.specs.Prelude.{◌≡◌};
 ghost use Rattle.rules.specs.Codes.{disabled, short_name};
-ghost use Rattle.rules.specs.code.Decoded.{number_of};
+ghost use Rattle.rules.specs.code.Decoded.{code_number};
 ghost use Rattle.codes.specs.Named.{severity_of};
 
 use rules::Code;
@@ -33,7 +33,7 @@ pub fn severity(code: u32) -> EvalSeverity
 }
 
 fn name_of(code: Code) -> &'static [u8]
-    ensures { result.now ≡ short_name (number_of code) }
+    ensures { result.now ≡ short_name (code_number code) }
 {
     match code {
         Code::UnusedLoad => b"unused-load",

@@ -3,7 +3,7 @@ ghost use Rattle.std.specs.Prelude.{◌≡◌, [], ◌++◌, ◌≤◌, length, 
 ghost use Rattle.base.specs.Ascii.{ascii};
 ghost use Rattle.rules.specs.Visit.{look};
 ghost use Rattle.tree.specs.code.Kinds.{number as kind_number};
-ghost use Rattle.rules.specs.code.Decoded.{number_of};
+ghost use Rattle.rules.specs.code.Decoded.{code_number};
 ghost use Rattle.page.specs.Page.{Added};
 ghost use Rattle.sarif_log.specs.Words.{phrases, reasons, seconds, phrase, kind_word};
 
@@ -13,7 +13,7 @@ use tree::kinds::ValueKind;
 
 // What is said of a code, before its value.
 fn phrase_words(code: Code) -> &'static [u8]
-    ensures { result.now ≡ ascii (look (number_of code) phrases "") }
+    ensures { result.now ≡ ascii (look (code_number code) phrases "") }
 {
     match code {
         Code::UnusedLoad => b"Unused load of",

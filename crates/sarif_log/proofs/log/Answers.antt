@@ -15,7 +15,7 @@ use Rattle.rules.specs.Codes.{disabled, short_name}
 use Rattle.rules.specs.Record.{width}
 use Rattle.rules.specs.Joined.{codes}
 use Rattle.rules.specs.Visit.{look}
-use Rattle.rules.specs.code.Decoded.{number_of}
+use Rattle.rules.specs.code.Decoded.{code_number}
 use Rattle.rules.specs.Afterwards.{record_in, records_in}
 use Rattle.base.specs.Ascii.{ascii}
 use Rattle.answer.specs.Note.{span_from, rec_from}
