@@ -2,7 +2,7 @@
 ghost use Rattle.std.specs.Prelude.{◌≡◌, [], ◌++◌, ◌≤◌, length, MatchOption};
 ghost use Rattle.base.specs.Ascii.{ascii};
 ghost use Rattle.rules.specs.Visit.{look};
-ghost use Rattle.tree.specs.code.Kinds.{number as kind_number};
+ghost use Rattle.tree.specs.code.Kinds.{kind_number};
 ghost use Rattle.rules.specs.code.Decoded.{code_number};
 ghost use Rattle.page.specs.Page.{Added};
 ghost use Rattle.sarif_log.specs.Words.{phrases, reasons, seconds, phrase, kind_word};
