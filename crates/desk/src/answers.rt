@@ -1,5 +1,5 @@
 // Answers, each ended by a line `--`.
-ghost use Rattle.std.specs.Prelude.{◌+◌, ◌≤◌, ◌≡◌, ◌++◌, length};
+ghost use Rattle.std.specs.Prelude.{◌+◌, ◌≤◌, ◌≡◌, ◌++◌};
 ghost use Rattle.tree.specs.code.Numbers.{Starts};
 ghost use Rattle.page.specs.Page.{Wrote};
 ghost use Rattle.desk.specs.Choices.{mode_of};
@@ -178,6 +178,7 @@ impl Request<'_> {
     }
 
     // A list or a log, as the choices say, in rooms of the sizes that were asked for.
+    // Kept: the rooms one by one, since a method that lends two fields of its struct as `&mut` at once gets no proof yet.
     pub fn serve<P: Print + Eprint>(
         &self,
         rt: &P,

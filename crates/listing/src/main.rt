@@ -14,6 +14,7 @@ const ANSWER: usize = WIDTH * 2048;
 // Bytes for every text of a call with that much answer room.
 const PAGE: usize = 11 * ANSWER + 400;
 
+// Kept: desk's `say` has this form with other words, and tells its caller too; one of both would take the words as a parameter.
 fn say<P: Print + Eprint>(rt: &P, s: &[u8]) {
     if rt.write_all(s).is_err() {
         let _ = rt.eprintln("standard output can't be written");
