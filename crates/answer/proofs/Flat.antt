@@ -10,7 +10,7 @@ use Rattle.tree.specs.code.Part.{Part}
 use Rattle.tree.proofs.Laws.{sized, ended, kids, first, rest, forest_none, forest_node}
 use Rattle.rules.specs.Record.{Rec}
 use lib.ListN.{length}
-use Rattle.answer.specs.declared.Sheet.{Sheet}
+use Rattle.answer.specs.declared.LentSheet.{LentSheet}
 use Rattle.answer.specs.Page.{Added, Page, writes, page}
 use Rattle.answer.proofs.Laws.{writes_none, writes_append, writes_length}
 
@@ -96,31 +96,31 @@ module _ {A : Type 0} (g : Forest → List A) (G : Head → Forest → List A) (
         (ap (λ (l : List A). F (node_head t i) (forest_of t (i + 1) (i + size_at t i)) ++ l) (sym (split (kids p lt) (rest p lt) (omega arith) (ended p lt))))
 
 -- A walk's loop: what is written so far, with what is still left to list, comes to the whole list.
-pub record Going (s₀ : Sheet) (all : List Rec) (s : Sheet) (left : List Rec) : Type 0 where
+pub record Going (s₀ : LentSheet) (all : List Rec) (s : LentSheet) (left : List Rec) : Type 0 where
   pub yet : writes (page s) left ≡ writes (page s₀) all
   pub same_room : s.out.ghost_name ≡ s₀.out.ghost_name
 
-pub going : (s : Sheet) (all : List Rec) → Going s all s all
+pub going : (s : LentSheet) (all : List Rec) → Going s all s all
 going s all = record { yet = refl; same_room = refl }
 
-pub going_on : {s₀ s s' : Sheet} {all zs : List Rec} → Going s₀ all s zs → (xs ys : List Rec) → Added s s' xs → zs ≡ xs ++ ys → Going s₀ all s' ys
+pub going_on : {s₀ s s' : LentSheet} {all zs : List Rec} → Going s₀ all s zs → (xs ys : List Rec) → Added s s' xs → zs ≡ xs ++ ys → Going s₀ all s' ys
 going_on {s = s} g xs ys w e =
     record { yet = stepped (page s) xs ys w.so e ∙ g.yet; same_room = w.same_room ∙ g.same_room }
 
-pub going_end : {s₀ s : Sheet} {all zs : List Rec} → Going s₀ all s zs → zs ≡ [] → Added s₀ s all
+pub going_end : {s₀ s : LentSheet} {all zs : List Rec} → Going s₀ all s zs → zs ≡ [] → Added s₀ s all
 going_end {s = s} g e = record { so = sym (writes_none (page s)) ∙ (rw e at g.yet); same_room = g.same_room }
 
 -- ---- what functions wrote
 
-pub added_none : (s : Sheet) → Added s s []
+pub added_none : (s : LentSheet) → Added s s []
 added_none s = record { so = sym (writes_none (page s)); same_room = refl }
 
 -- the same records, in other words
-pub added_as : {s s' : Sheet} {xs : List Rec} (ys : List Rec) → ys ≡ xs → Added s s' xs → Added s s' ys
+pub added_as : {s s' : LentSheet} {xs : List Rec} (ys : List Rec) → ys ≡ xs → Added s s' xs → Added s s' ys
 added_as {s = s} ys e w = record { so = w.so ∙ ap (writes (page s)) (sym e); same_room = w.same_room }
 
 -- one after another
-pub added_both : {s s₁ s₂ : Sheet} {xs ys : List Rec} → Added s s₁ xs → Added s₁ s₂ ys → Added s s₂ (xs ++ ys)
+pub added_both : {s s₁ s₂ : LentSheet} {xs ys : List Rec} → Added s s₁ xs → Added s₁ s₂ ys → Added s s₂ (xs ++ ys)
 added_both {s = s} {xs = xs} {ys = ys} a b = record {
   so = b.so ∙ rw a.so (sym (writes_append (page s) xs ys));
   same_room = b.same_room ∙ a.same_room;

@@ -15,7 +15,7 @@ use Rattle.rules.specs.Joined.{one_more, raise}
 use Rattle.answer.specs.declared.Ends.{Ends}
 use Rattle.answer.specs.declared.Note.{Note}
 use Rattle.answer.specs.declared.Place.TheVariants.{Node}
-use Rattle.answer.specs.declared.Sheet.{Sheet}
+use Rattle.answer.specs.declared.LentSheet.{LentSheet}
 use Rattle.answer.specs.Page.{stored, write, writes, page, Added}
 use Rattle.answer.specs.Note.{span_of, span_from, value_of, node_of, rec_of, rec_from}
 
@@ -36,8 +36,8 @@ next_count n h = go (ltb n 18446744073709551615) refl
     go true q = let l = ltb-true n 18446744073709551615 q in omega arith
     go false q = let l = ltb-false n 18446744073709551615 q in omega arith
 
-pub put_done : (s : Sheet) (r : Rec) {s' : Sheet} {r₁ : Rec} → (r₁ ≡ r) → s'.out.now ≡ stored s.out.now s.count r₁
-    → s'.count ≡ one_more s.count → s'.tally ≡ raise r.code s.tally → s'.out.ghost_name ≡ s.out.ghost_name
+pub put_done : (s : LentSheet) (r : Rec) {s' : LentSheet} {r₁ : Rec} → (r₁ ≡ r) → s'.out.now ≡ stored s.out.now s.sheet.count r₁
+    → s'.sheet.count ≡ one_more s.sheet.count → s'.sheet.tally ≡ raise r.code s.sheet.tally → s'.out.ghost_name ≡ s.out.ghost_name
     → Added s s' (r ∷ [])
 unfolding write writes
 put_done s r b a c d e = record { so = rw (a, b, c, d); same_room = e }

@@ -20,7 +20,7 @@ use Rattle.tree.proofs.Fits.{tree_count}
 use Rattle.rules.specs.code.Marks.{nodes}
 use Rattle.rules.specs.Calls.{Done, DoneWithWork, done, done_with_work}
 use Rattle.rules.proofs.Answered.{done_unfit, done_short, done_listed, work_unfit, filled, answer_same}
-use Rattle.answer.specs.declared.Sheet.{Sheet}
+use Rattle.answer.specs.declared.LentSheet.{LentSheet}
 use Rattle.answer.specs.Page.{Page, writes, page, Added}
 use Rattle.answer.specs.Answers.{Answers}
 use Rattle.answer.proofs.Laws.{writes_tally, writes_count}
@@ -44,28 +44,28 @@ unfit_with_work t why rs w o y a e p q = rw (work_unfit rs t w o y e, answer_sam
 
 -- Of a valid file: c is the sheet of the walk that only counts, begun as s.
 module _ (rs : List Rec) (few : length rs ≤ 18446744073709551615) (o y : List ℕ)
-    (s c : Sheet) (fresh : s.count ≡ 0) (walked : Added s c rs) where
-  pub counted : c.count ≡ length rs
+    (s c : LentSheet) (fresh : s.sheet.count ≡ 0) (walked : Added s c rs) where
+  pub counted : c.sheet.count ≡ length rs
   counted =
       ap (λ (p : Page). p.count) walked.so
       ∙ writes_count (page s) rs (omega arith)
       ∙ omega arith
 
-  pub short_done : (a : Answer) → length o / width < c.count → a.outcome ≡ Err (AnswerRoom c.count) → a.tally ≡ no_tally
+  pub short_done : (a : Answer) → length o / width < c.sheet.count → a.outcome ≡ Err (AnswerRoom c.sheet.count) → a.tally ≡ no_tally
       → Answers rs o y a o
   short_done a h p q =
       let k = counted in
       let l : length o < length rs * width = (div-lt_iff_lt-mul {k = width} {x = length o} {y = length rs} (omega arith)).0 (rw k at h) in
       record { answers = λ t f valid. rw (done_short rs t o y valid (omega arith), answer_same a (rw k at p) q) }
 
-  pub listed_done : (a : Answer) (r d : Sheet) → c.count ≤ length o / width → page r ≡ record { out = o; count = 0; tally = y }
-      → Added r d rs → a.outcome ≡ Ok d.count → a.tally ≡ d.tally → Answers rs o y a d.out.now
+  pub listed_done : (a : Answer) (r d : LentSheet) → c.sheet.count ≤ length o / width → page r ≡ record { out = o; count = 0; tally = y }
+      → Added r d rs → a.outcome ≡ Ok d.sheet.count → a.tally ≡ d.sheet.tally → Answers rs o y a d.out.now
   listed_done a r d h start w p q =
       let k = counted in
       let l : length rs * width ≤ length o = (le-div_iff_mul-le {k = width} {x = length rs} {y = length o} (omega arith)).0 (rw k at h) in
       let b = rw start at w.so in
-      let n : d.count ≡ length rs = ap (λ (p : Page). p.count) b ∙ writes_count _ rs (omega arith) ∙ omega arith in
-      let m : d.tally ≡ raise_all rs y = ap (λ (p : Page). p.tally) b ∙ writes_tally _ rs in
+      let n : d.sheet.count ≡ length rs = ap (λ (p : Page). p.count) b ∙ writes_count _ rs (omega arith) ∙ omega arith in
+      let m : d.sheet.tally ≡ raise_all rs y = ap (λ (p : Page). p.tally) b ∙ writes_tally _ rs in
       let v : d.out.now ≡ filled rs o = ap (λ (p : Page). p.out) b ∙ written o y rs (omega arith) few in
       record { answers = λ t f valid. rw (done_listed rs t o y valid (omega arith), answer_same a (p ∙ ap Ok n) (q ∙ m), v) }
 

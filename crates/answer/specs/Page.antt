@@ -2,7 +2,7 @@
 use Rattle.std.specs.Prelude.{ℕ, ◌≡◌, ◌+◌, ◌*◌, ◌/◌, List, [], ◌∷◌, true, false, length, set, ltb}
 use Rattle.rules.specs.Record.{Rec, width, words}
 use Rattle.rules.specs.Joined.{one_more, raise}
-use Rattle.answer.specs.declared.Sheet.{Sheet}
+use Rattle.answer.specs.declared.LentSheet.{LentSheet}
 
 -- words one after the other, from word a on
 unfoldable pub lay : List ℕ → ℕ → List ℕ → List ℕ
@@ -29,10 +29,10 @@ writes p [] = p
 writes p (r ∷ rs) = writes (write p r) rs
 
 -- what a sheet has written
-abbrev pub page : Sheet → Page
-page s = record { out = s.out.now; count = s.count; tally = s.tally }
+abbrev pub page : LentSheet → Page
+page s = record { out = s.out.now; count = s.sheet.count; tally = s.sheet.tally }
 
 -- The sheet s became s': the records rs were written, into the same lent words.
-pub record Added (s s' : Sheet) (rs : List Rec) : Type 0 where
+pub record Added (s s' : LentSheet) (rs : List Rec) : Type 0 where
   pub so : page s' ≡ writes (page s) rs
   pub same_room : s'.out.ghost_name ≡ s.out.ghost_name

@@ -32,12 +32,18 @@ pub struct Note {
     pub third: Place,
 }
 
-// What is written so far: the lent words, how many records, and how many of each code.
-#[derive(Drop)]
-pub struct Sheet<'a> {
-    pub out: &'a mut [u32],
+// How many records there are so far, and how many of each code.
+#[derive(Clone, Copy, Debug, PartialEq, Eq)]
+pub struct Sheet {
     pub count: usize,
     pub tally: [usize; CODES],
+}
+
+// A sheet over the words that it is written into.
+#[derive(Drop)]
+pub struct LentSheet<'a> {
+    pub out: &'a mut [u32],
+    pub sheet: Sheet,
 }
 
 // Where a span begins and ends.
@@ -158,15 +164,14 @@ fn emit(out: &mut [u32], n: usize, r: Words)
     }
 }
 
-impl<'a> Sheet<'a> {
+impl<'a> LentSheet<'a> {
     // Nothing written yet, with the counts of the passes before.
-    pub fn new(out: &'a mut [u32], tally: [usize; CODES]) -> Sheet<'a>
+    pub fn new(out: &'a mut [u32], tally: [usize; CODES]) -> LentSheet<'a>
         ensures { (page result ≡ record { out = out.old; count = 0; tally = tally }) × (result.out.ghost_name ≡ out.entry.ghost_name) }
     {
-        Sheet {
+        LentSheet {
             out,
-            count: 0,
-            tally,
+            sheet: Sheet { count: 0, tally },
         }
     }
 
@@ -174,9 +179,9 @@ impl<'a> Sheet<'a> {
     pub fn put(&mut self, t: &[u8], n: Note)
         ensures { Added self.old self.new (rec_of t.now n ∷ []) }
     {
-        emit(self.out, self.count, words_of(t, n));
-        self.count = self.count.saturating_add(1);
-        self.tally = raised(self.tally, n.code);
+        emit(self.out, self.sheet.count, words_of(t, n));
+        self.sheet.count = self.sheet.count.saturating_add(1);
+        self.sheet.tally = raised(self.sheet.tally, n.code);
     }
 
     // A record of a node's own span and of no value.
@@ -198,11 +203,11 @@ impl<'a> Sheet<'a> {
 
     // What is written is the whole list.
     pub fn listed(&self) -> Answer
-        ensures { (result.outcome ≡ Ok self.now.count) × (result.tally ≡ self.now.tally) }
+        ensures { (result.outcome ≡ Ok self.now.sheet.count) × (result.tally ≡ self.now.sheet.tally) }
     {
         Answer {
-            outcome: Ok(self.count),
-            tally: self.tally,
+            outcome: Ok(self.sheet.count),
+            tally: self.sheet.tally,
         }
     }
 }
@@ -223,7 +228,7 @@ pub trait Pass {
 
     ghost records: { Self → List Rec };
 
-    fn lint(&self, sheet: &mut Sheet<'_>)
+    fn lint(&self, sheet: &mut LentSheet<'_>)
         requires { ready self.now }
         ensures { Added sheet.old sheet.new (records self.now) };
 }
@@ -233,13 +238,13 @@ pub fn answered<P: Pass>(pass: &P, out: &mut [u32], tally: [usize; CODES]) -> An
     requires { P.ready pass.now × (length (P.records pass.now) ≤ 18446744073709551615) }
     ensures { Answers (P.records pass.now) out.old tally result out.new }
 {
-    let mut counted = Sheet::new(&mut out[..0], tally);
+    let mut counted = LentSheet::new(&mut out[..0], tally);
     pass.lint(&mut counted);
-    let records = counted.count;
+    let records = counted.sheet.count;
     if out.len() / WIDTH < records {
         return refused(Refusal::AnswerRoom(records));
     }
-    let mut sheet = Sheet::new(out, tally);
+    let mut sheet = LentSheet::new(out, tally);
     pass.lint(&mut sheet);
     sheet.listed()
 }

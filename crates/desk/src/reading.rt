@@ -12,6 +12,9 @@ use tree::bytes::u32_at;
 // No valid tree is longer: `file_longest` of tree, proofs/Longest.
 pub const LONGEST: usize = 149515;
 
+// The largest size that can be asked for, above every room and every log: it bounds nothing, so no log is measured for it.
+const ALL: usize = 4294967295;
+
 // How much of the program's rooms a request is lent, and the output room that it asks for its log, if it does.
 #[derive(Clone, Copy, Debug, PartialEq, Eq)]
 pub struct Sizes {
@@ -47,10 +50,11 @@ pub fn lent<R: Read>(from: &mut R, choices: Choices) -> Sizes {
     }
     let mut four = [0u8; 16];
     input::read_full(from, &mut four);
+    let output = u32_at(&four, 8);
     Sizes {
         work: u32_at(&four, 0).min(WORK_WORDS),
         answer: u32_at(&four, 4).min(ANSWER),
-        output: Some(u32_at(&four, 8)),
+        output: (output < ALL).then_some(output),
     }
 }
 

@@ -6,13 +6,14 @@ use mathlib.Core.Path.{◌≡◌, refl, sym, ap, ◌∙◌}
 use mathlib.Core.List.{List, [], ◌∷◌, ◌++◌, append-nil}
 use mathlib.Core.Bool.{Bool, true, false, cond, ◌&&◌}
 use lib.Dec.{eqb}
-use borrow.Author.Tests.{ne_eqb}
+use lib.ListN.{get_or}
+use borrow.Author.Tests.{ne_eqb, eq-eqb, eqb-true}
 use Rattle.tree.specs.Bytes.{kind_at, size_at, value_at}
 use Rattle.tree.specs.Forest.{Head, Forest, node, node_spot, node_head, forest_of}
 use Rattle.tree.specs.code.Part.{Part, Subtree}
 use Rattle.tree.specs.declared.Likeness.{Likeness}
 use Rattle.tree.specs.declared.Likeness.TheVariants.{Different, SameForm, SameNumber}
-use Rattle.tree.specs.Keys.{alike}
+use Rattle.tree.specs.Keys.{alike, likeness}
 use Rattle.tree.specs.code.Numbers.{like_by}
 use Rattle.tree.specs.code.Find.{child_of, first_child}
 use Rattle.rules.specs.Record.{Rec, named_at, listed}
@@ -23,7 +24,7 @@ use Rattle.tree.proofs.FirstChild.{child_some, child_none}
 use Rattle.answer.proofs.Flat.{past, over, split}
 use Rattle.answer.proofs.Bits.{and_false}
 use Rattle.answer.proofs.ByRole.{kind_there, kind_absent, head_there}
-use Rattle.dubious.specs.Scan.{is_key, inside, before, seen, doubled, clashes, clash_recs, dict_recs, idle_recs}
+use Rattle.dubious.specs.Scan.{is_key, equal_key, inside, before, seen, doubled, clashes, clash_recs, dict_recs, idle_recs}
 
 -- ---- keys of siblings
 
@@ -68,6 +69,15 @@ clash_other Different old s on e = refl
 clash_other SameForm old s on e = let z : ◌≡◌ {A = ℕ} 1 0 = ap (λ (b : Bool). cond b 1 0) e in absurd (omega arith)
 clash_other SameNumber old s on e = let z : ◌≡◌ {A = ℕ} 1 0 = ap (λ (b : Bool). cond b 1 0) e in absurd (omega arith)
 
+alike_by : (a b : Bool) → (a ≡ true → b ≡ true) → b ≡ alike (likeness a b)
+alike_by true b h = h refl
+alike_by false true h = refl
+alike_by false false h = refl
+
+alike_numbers : (ns : List ℕ) (a b : ℕ) → eqb (get_or ns a 0) (get_or ns b 0) ≡ alike (like_by ns a b)
+unfolding like_by
+alike_numbers ns a b = alike_by (eqb a b) (eqb (get_or ns a 0) (get_or ns b 0)) (λ q. eq-eqb (get_or ns a 0) (get_or ns b 0) (ap (λ (x : ℕ). get_or ns x 0) (eqb-true a b q)))
+
 module _ (ns t : List ℕ) (j : ℕ) where
   -- the key at node j against others
   abbrev pub of_j : List Head → List Rec
@@ -80,6 +90,11 @@ module _ (ns t : List ℕ) (j : ℕ) where
 
   abbrev pub equal : ℕ → Bool
   equal m = alike (like_by ns (value_at t m) (value_at t j))
+
+  -- equal keys are those with one number
+  pub equal_by : (m : ℕ) {n : ℕ} → n ≡ get_or ns (value_at t j) 0 → {r : Bool}
+      → r ≡ (is_key (node_head t m) && eqb (get_or ns (value_at t m) 0) n) → r ≡ equal_key ns t m j
+  equal_by m q e = rw (q, alike_numbers ns (value_at t m) (value_at t j)) at e
 
   pub record Scanned (i : ℕ) (old : Option ℕ) (m : ℕ) : Type 0 where
     pub hit : of_j (at_most old) ≡ doubled ns t old j

@@ -3,7 +3,7 @@
 // found, 1 KiB of it for as long as they are needed.
 #![tactic(auto)]
 
-ghost use Rattle.std.specs.Prelude.{◌≡◌, [], ◌≤◌};
+ghost use Rattle.std.specs.Prelude.{◌≡◌, ◌&&◌, ◌||◌, [], ◌≤◌, eqb, get_or};
 ghost use Rattle.tree.specs.Bytes.{value_at};
 ghost use Rattle.tree.specs.Forest.{node_head, forest_of};
 ghost use Rattle.tree.specs.code.Numbers.{like_by};
@@ -13,16 +13,23 @@ ghost use Rattle.rules.specs.Visit.{each};
 ghost use Rattle.rules.specs.Dubious.{keys, doubles, dict_at, idle_at, dubious};
 ghost use Rattle.rules.specs.Calls.{dubious_call};
 ghost use Rattle.answer.specs.Page.{Added};
-ghost use Rattle.dubious.specs.Scan.{is_key, equal_key, doubled, clashes, clash_recs, dict_recs, idle_recs};
+ghost use Rattle.dubious.specs.Scan.{is_key, doubled, clashes, clash_recs, dict_recs, idle_recs};
 
-use answer::{Note, Pass, Place, Sheet, answered};
+use answer::{LentSheet, Note, Pass, Place, answered};
 use rules::{Answer, CODES, Code};
 use tree::bytes::{kind_at, role_at, size_at, value_at};
 use tree::children::child_of;
-use tree::keys::{key_numbers, like};
+use tree::keys::{entry_of, key_numbers, like};
 use tree::kinds::{Kind, Role};
 use tree::siblings::siblings;
 use tree::{Facts, Likeness, Mode, judge};
+
+// Identifiers and literals are keys.
+fn can_be_key(kind: usize) -> bool
+    ensures { result ≡ (eqb 20 kind || eqb 21 kind) }
+{
+    kind == Kind::Identifier as usize || kind == Kind::Literal as usize
+}
 
 // A walk over a file's nodes, with the numbers that stand for its keys.
 #[derive(Clone, Copy)]
@@ -40,20 +47,25 @@ impl Walk<'_> {
         like(self.numbers, value_at(self.t, m), value_at(self.t, j))
     }
 
-    // Identifiers and literals are keys.
+    // The role tells first: every second child of a dict is no key.
     fn is_key(&self, j: usize) -> bool
         ensures { result ≡ is_key (node_head self.now.t.now j) }
     {
-        let kind = kind_at(self.t, j);
-        role_at(self.t, j) == Role::Key as usize
-            && (kind == Kind::Identifier as usize || kind == Kind::Literal as usize)
+        role_at(self.t, j) == Role::Key as usize && can_be_key(kind_at(self.t, j))
     }
 
-    // Node m is a key equal to that of node j.
-    fn is_equal_key(&self, m: usize, j: usize) -> bool
-        ensures { result ≡ equal_key self.now.numbers.now self.now.t.now m j }
+    // The number that stands for the key at node j.
+    fn number(&self, j: usize) -> usize
+        ensures { result ≡ get_or self.now.numbers.now (value_at self.now.t.now j) 0 }
     {
-        self.is_key(m) && self.likeness(m, j) != Likeness::Different
+        entry_of(self.numbers, value_at(self.t, j))
+    }
+
+    // Node m is a key with this number, as keys equal to one that has it are.
+    fn is_equal_key(&self, m: usize, number: usize) -> bool
+        ensures { result ≡ (is_key (node_head self.now.t.now m) && eqb (get_or self.now.numbers.now (value_at self.now.t.now m) 0) number) }
+    {
+        self.is_key(m) && self.number(m) == number
     }
 
     // The last of the siblings from node i on that is a key equal to that of node j.
@@ -61,9 +73,10 @@ impl Walk<'_> {
         requires { Part self.now.t.now i j }
         ensures { clashes self.now.numbers.now self.now.t.now i j ≡ doubled self.now.numbers.now self.now.t.now result j }
     {
+        let number = self.number(j);
         let mut old = None;
         for m in siblings(self.t, i, j) {
-            if self.is_equal_key(m, j) {
+            if self.is_equal_key(m, number) {
                 old = Some(m);
             }
         }
@@ -71,7 +84,7 @@ impl Walk<'_> {
     }
 
     // 16 at the previous equal key, and why it is equal, for the key at node j.
-    fn clash(&self, i: usize, j: usize, sheet: &mut Sheet<'_>)
+    fn clash(&self, i: usize, j: usize, sheet: &mut LentSheet<'_>)
         requires { Part self.now.t.now i j }
         ensures { Added sheet.old sheet.new (clash_recs self.now.numbers.now self.now.t.now i j) }
     {
@@ -92,7 +105,7 @@ impl Walk<'_> {
     }
 
     // The keys of a dict with children from node i up to e.
-    fn dict(&self, i: usize, e: usize, sheet: &mut Sheet<'_>)
+    fn dict(&self, i: usize, e: usize, sheet: &mut LentSheet<'_>)
         requires { Part self.now.t.now i e × (i ≤ e) }
         ensures { Added sheet.old sheet.new (doubles (like_by self.now.numbers.now) [] (keys (forest_of self.now.t.now i e))) }
     {
@@ -101,7 +114,7 @@ impl Walk<'_> {
         }
     }
 
-    fn expr(&self, i: usize, sheet: &mut Sheet<'_>)
+    fn expr(&self, i: usize, sheet: &mut LentSheet<'_>)
         requires { Subtree self.now.t.now i }
         ensures { Added sheet.old sheet.new (dict_recs self.now.numbers.now self.now.t.now i) }
     {
@@ -111,7 +124,7 @@ impl Walk<'_> {
     }
 
     // 16, each node before its children.
-    fn duplicate_dictionary_key(&self, sheet: &mut Sheet<'_>)
+    fn duplicate_dictionary_key(&self, sheet: &mut LentSheet<'_>)
         requires { Part self.now.t.now 0 self.now.nodes }
         ensures { Added sheet.old sheet.new (each (dict_at (like_by self.now.numbers.now)) (forest_of self.now.t.now 0 self.now.nodes)) }
     {
@@ -120,7 +133,7 @@ impl Walk<'_> {
         }
     }
 
-    fn stmt(&self, i: usize, sheet: &mut Sheet<'_>)
+    fn stmt(&self, i: usize, sheet: &mut LentSheet<'_>)
         requires { Subtree self.now.t.now i }
         ensures { Added sheet.old sheet.new (idle_recs self.now.t.now i) }
     {
@@ -150,7 +163,7 @@ impl Walk<'_> {
     }
 
     // 17, each node before its children.
-    fn identifier_as_statement(&self, sheet: &mut Sheet<'_>)
+    fn identifier_as_statement(&self, sheet: &mut LentSheet<'_>)
         requires { Part self.now.t.now 0 self.now.nodes }
         ensures { Added sheet.old sheet.new (each idle_at (forest_of self.now.t.now 0 self.now.nodes)) }
     {
@@ -165,7 +178,7 @@ impl Pass for Walk<'_> {
 
     ghost records = { λ w. dubious (like_by w.numbers.now) (forest_of w.t.now 0 w.nodes) };
 
-    fn lint(&self, sheet: &mut Sheet<'_>) {
+    fn lint(&self, sheet: &mut LentSheet<'_>) {
         self.duplicate_dictionary_key(sheet);
         self.identifier_as_statement(sheet);
     }

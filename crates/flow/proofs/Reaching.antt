@@ -17,7 +17,7 @@ use Rattle.tree.proofs.FirstChild.{child_some, child_none}
 use Rattle.rules.specs.Record.{Rec, plainly}
 use Rattle.rules.specs.Order.{fail_called}
 use Rattle.rules.specs.Flow.{Reached, in_list, one_by_one, only, both, on_through, stopping, after_stop, reached, reached_part}
-use Rattle.answer.specs.declared.Sheet.{Sheet}
+use Rattle.answer.specs.declared.LentSheet.{LentSheet}
 use Rattle.answer.specs.Page.{Added}
 use Rattle.answer.proofs.Flat.{Going, going_on, going_end, added_none, added_both}
 use Rattle.answer.proofs.ByRole.{there, absent}
@@ -26,21 +26,21 @@ use Rattle.flow.proofs.Forms.{reach_other}
 use Rattle.flow.proofs.Steps.{whole_at}
 
 -- what a walk had left, written
-going_with : {s₀ s s' : Sheet} {all rest : List Rec} → Going s₀ all s rest → Added s s' rest → Added s₀ s' all
+going_with : {s₀ s s' : LentSheet} {all rest : List Rec} → Going s₀ all s rest → Added s s' rest → Added s₀ s' all
 going_with g w = record { so = w.so ∙ g.yet; same_room = w.same_room ∙ g.same_room }
 
 -- ---- what a walk writes and hands back
 
-pub walked_as : {s s' : Sheet} {b : Bool} {w w' : Reached} → Walked s s' b w → w ≡ w' → Walked s s' b w'
+pub walked_as : {s s' : LentSheet} {b : Bool} {w w' : Reached} → Walked s s' b w → w ≡ w' → Walked s s' b w'
 walked_as a e = rw e at a
 
-pub walked_still : (s : Sheet) (b : Bool) → Walked s s b (stopping b)
+pub walked_still : (s : LentSheet) (b : Bool) → Walked s s b (stopping b)
 walked_still s b = record { written = added_none s; stops = refl }
 
-walked_through : {s s' : Sheet} (w : Reached) → Added s s' w.recs → Walked s s' false (on_through w)
+walked_through : {s s' : LentSheet} (w : Reached) → Added s s' w.recs → Walked s s' false (on_through w)
 walked_through w a = record { written = a; stops = refl }
 
-pub walked_two : {s s₁ s₂ : Sheet} {a b : Bool} {v w : Reached} → Walked s s₁ a v → Walked s₁ s₂ b w → Walked s s₂ (a && b) (both v w)
+pub walked_two : {s s₁ s₂ : LentSheet} {a b : Bool} {v w : Reached} → Walked s s₁ a v → Walked s₁ s₂ b w → Walked s s₂ (a && b) (both v w)
 walked_two x y =
     record {
       written = added_both x.written y.written;
@@ -99,7 +99,7 @@ module _ (F : ℕ → Bool) (t : List ℕ) (i : ℕ) where
           reach_other F (node_head t i) under (λ v. reached F v under) (λ e. not_one 1 e p) (λ e. not_one 2 e q) (λ e. not_one 4 e r) x y z
 
   -- any other statement: its children were gone through each by itself
-  pub each_walked : {s s' : Sheet} {e k : ℕ} → e ≡ i + size_at t i → k ≡ kind_at t i → (eqb k 1 || (eqb k 2 || eqb k 4)) ≡ false
+  pub each_walked : {s s' : LentSheet} {e k : ℕ} → e ≡ i + size_at t i → k ≡ kind_at t i → (eqb k 1 || (eqb k 2 || eqb k 4)) ≡ false
       → (kind_at t i ≡ 5 → ⊥) → (kind_at t i ≡ 8 → ⊥) → (kind_at t i ≡ 10 → ⊥)
       → Added s s' (reached F one_by_one (forest_of t (i + 1) e)).recs → Walked s s' false reach_here
   each_walked {e = e} a q h x y z w = walked_as (walked_through (reached F one_by_one (forest_of t (i + 1) e)) w) (here_each a q h x y z)
@@ -129,9 +129,9 @@ module _ (F : ℕ → Bool) where
       go false = refl
 
   -- a round of the loop
-  pub list_again : {t : List ℕ} {j e : ℕ} → Part t j e → j < e → (b : Bool) → b ≡ false → {s₀ s : Sheet} {all : List Rec} {whole : Bool}
+  pub list_again : {t : List ℕ} {j e : ℕ} → Part t j e → j < e → (b : Bool) → b ≡ false → {s₀ s : LentSheet} {all : List Rec} {whole : Bool}
       → Going s₀ all s (left F b (forest_of t j e)).recs → (left F b (forest_of t j e)).stops ≡ whole
-      → {s' : Sheet} {d : Bool} → Walked s s' d (reach_here F t j)
+      → {s' : LentSheet} {d : Bool} → Walked s s' d (reach_here F t j)
       → Going s₀ all s' (left F d (forest_of t (j + size_at t j) e)).recs × ((left F d (forest_of t (j + size_at t j) e)).stops ≡ whole)
   list_again {t} {j} {e} p lt b n g q {d = d} w =
       let after = forest_of t (j + size_at t j) e in
@@ -143,8 +143,8 @@ module _ (F : ℕ → Bool) where
       )
 
   -- after the loop: one aborted, or none is left
-  module _ (t : List ℕ) (i j e : ℕ) {s₀ s : Sheet} where
-    pub list_stopped : (b : Bool) → b ≡ true → {s' : Sheet} → Going s₀ (reached F in_list (forest_of t i e)).recs s (left F b (forest_of t j e)).recs
+  module _ (t : List ℕ) (i j e : ℕ) {s₀ s : LentSheet} where
+    pub list_stopped : (b : Bool) → b ≡ true → {s' : LentSheet} → Going s₀ (reached F in_list (forest_of t i e)).recs s (left F b (forest_of t j e)).recs
         → (left F b (forest_of t j e)).stops ≡ (reached F in_list (forest_of t i e)).stops → Added s s' (after_stop (forest_of t j e))
         → Walked s₀ s' b (reached F in_list (forest_of t i e))
     list_stopped b k g q w =
@@ -202,7 +202,7 @@ module _ (t : List ℕ) (j e : ℕ) where
   unreached_none h = rw (forest_none t j e h)
 
 -- no sibling is left, whether or not the last one aborts
-pub list_done : (F : ℕ → Bool) (t : List ℕ) (i j e : ℕ) {s₀ s : Sheet} (b : Bool) → e ≤ j
+pub list_done : (F : ℕ → Bool) (t : List ℕ) (i j e : ℕ) {s₀ s : LentSheet} (b : Bool) → e ≤ j
     → Going s₀ (reached F in_list (forest_of t i e)).recs s (left F b (forest_of t j e)).recs
     → (left F b (forest_of t j e)).stops ≡ (reached F in_list (forest_of t i e)).stops
     → Walked s₀ s b (reached F in_list (forest_of t i e))

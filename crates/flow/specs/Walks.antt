@@ -6,7 +6,7 @@ use Rattle.tree.specs.code.Find.{child_of}
 use Rattle.rules.specs.Record.{Rec}
 use Rattle.rules.specs.Visit.{look}
 use Rattle.rules.specs.Flow.{Effect, some_effect, none_effect, by_children, effects, effect_part, Loads, loads_part, Reached, after_stop, in_list, reached}
-use Rattle.answer.specs.declared.Sheet.{Sheet}
+use Rattle.answer.specs.declared.LentSheet.{LentSheet}
 use Rattle.answer.specs.Page.{Added}
 
 -- a value is the name of this number
@@ -67,6 +67,6 @@ left is_fail true f = record { stops = true; recs = after_stop f }
 left is_fail false f = reached is_fail in_list f
 
 -- what a walk writes and hands back
-pub record Walked (s s' : Sheet) (b : Bool) (w : Reached) : Type 0 where
+pub record Walked (s s' : LentSheet) (b : Bool) (w : Reached) : Type 0 where
   pub written : Added s s' w.recs
   pub stops : b ≡ w.stops

@@ -9,7 +9,7 @@ ghost use Rattle.flow.specs.Returns.{Checked};
 ghost use Rattle.flow.specs.Walks.{Stated, is_text, of_children, acting, inside, idle_at, past_of};
 
 use crate::loads::is_string;
-use answer::Sheet;
+use answer::LentSheet;
 use rules::Code;
 use tree::bytes::{kind_at, size_at, value_at};
 use tree::children::child_of;
@@ -68,7 +68,7 @@ fn has_effect(t: &[u8], strings: &[bool; 512], i: usize, e: usize) -> bool
     false
 }
 
-fn idle(t: &[u8], strings: &[bool; 512], i: usize, sheet: &mut Sheet<'_>)
+fn idle(t: &[u8], strings: &[bool; 512], i: usize, sheet: &mut LentSheet<'_>)
     requires { Subtree t.now i × Stated t.now i }
     ensures { Added sheet.old sheet.new (idle_at strings.now (node_head t.now i) (forest_of t.now (i + 1) (i + size_at t.now i))) }
 {
@@ -93,7 +93,7 @@ fn next(t: &[u8], i: usize) -> usize
     }
 }
 
-pub(crate) fn no_effect(t: &[u8], strings: &[bool; 512], n: usize, sheet: &mut Sheet<'_>)
+pub(crate) fn no_effect(t: &[u8], strings: &[bool; 512], n: usize, sheet: &mut LentSheet<'_>)
     requires { Checked t.now n }
     ensures { Added sheet.old sheet.new (effect_walk (is_text strings.now) (forest_of t.now 0 n)) }
 {

@@ -6,7 +6,7 @@ ghost use Rattle.std.specs.Prelude.{◌≡◌};
 ghost use Rattle.tree.specs.Judge.{judged};
 ghost use Rattle.rules.specs.Calls.{flow_call};
 
-use answer::{Pass, Sheet, answered, refused};
+use answer::{LentSheet, Pass, answered, refused};
 use rules::{Answer, CODES};
 use tree::lookup::{number_of, strings};
 use tree::{Facts, judge};
@@ -41,7 +41,7 @@ impl Pass for Walks<'_> {
 
     ghost records = { λ p. flow (λ v. eqb v p.fail) (λ v. eqb v p.none) (is_text p.strings) (forest_of p.t.now 0 p.n) };
 
-    fn lint(&self, sheet: &mut Sheet<'_>) {
+    fn lint(&self, sheet: &mut LentSheet<'_>) {
         returns::stmt(self.t, self.fail, self.none, self.n, sheet);
         reach::whole(self.t, self.fail, self.n, sheet);
         redundant::redundant(self.t, self.n, sheet);

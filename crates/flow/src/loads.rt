@@ -7,7 +7,7 @@ ghost use Rattle.rules.specs.Flow.{string_stated, loads};
 ghost use Rattle.answer.specs.Page.{Added};
 ghost use Rattle.flow.specs.Walks.{is_text, load_at, into_of};
 
-use answer::Sheet;
+use answer::LentSheet;
 use rules::Code;
 use tree::bytes::{kind_at, size_at, value_at};
 use tree::kinds::Kind;
@@ -44,7 +44,7 @@ fn allows(t: &[u8], strings: &[bool; 512], allowed: bool, j: usize) -> bool
             || k == Kind::Expression as usize && is_text(t, strings, j + 1, j + size_at(t, j)))
 }
 
-fn load(t: &[u8], allowed: bool, j: usize, sheet: &mut Sheet<'_>)
+fn load(t: &[u8], allowed: bool, j: usize, sheet: &mut LentSheet<'_>)
     ensures { (strings : List Bool) → Added sheet.old sheet.new (load_at strings allowed (node_head t.now j) (forest_of t.now (j + 1) (j + size_at t.now j))).recs }
 {
     if kind_at(t, j) == Kind::Load as usize && !allowed {
@@ -64,7 +64,7 @@ fn next(t: &[u8], j: usize) -> usize
     }
 }
 
-pub(crate) fn misplaced_load(t: &[u8], strings: &[bool; 512], n: usize, sheet: &mut Sheet<'_>)
+pub(crate) fn misplaced_load(t: &[u8], strings: &[bool; 512], n: usize, sheet: &mut LentSheet<'_>)
     requires { Part t.now 0 n }
     ensures { Added sheet.old sheet.new (loads (is_text strings.now) true (forest_of t.now 0 n)).recs }
 {

@@ -7,7 +7,7 @@ ghost use Rattle.rules.specs.Flow.{reached, reached_part, in_list as in_a_list, 
 ghost use Rattle.answer.specs.Page.{Added};
 ghost use Rattle.flow.specs.Walks.{is_name, Walked};
 
-use answer::Sheet;
+use answer::LentSheet;
 use fail::is_fail;
 use rules::Code;
 use tree::bytes::{kind_at, size_at};
@@ -23,7 +23,7 @@ fn stops(k: usize) -> bool
 
 // The statement at node i; whether it aborts.
 #[cycle(reaching)]
-fn reachable(t: &[u8], fail: usize, i: usize, sheet: &mut Sheet<'_>) -> bool
+fn reachable(t: &[u8], fail: usize, i: usize, sheet: &mut LentSheet<'_>) -> bool
     requires { Subtree t.now i }
     ensures { Walked sheet.old sheet.new result (reached_part (is_name fail) (node_head t.now i).kind (forest_of t.now (i + 1) (i + size_at t.now i)) (λ v. reached (is_name fail) v (forest_of t.now (i + 1) (i + size_at t.now i)))) }
 {
@@ -46,7 +46,7 @@ fn reachable(t: &[u8], fail: usize, i: usize, sheet: &mut Sheet<'_>) -> bool
 
 // Statements in a row: after one that aborts the next is reported, and the rest is not walked.
 #[cycle(reaching)]
-fn in_list(t: &[u8], fail: usize, i: usize, e: usize, sheet: &mut Sheet<'_>) -> bool
+fn in_list(t: &[u8], fail: usize, i: usize, e: usize, sheet: &mut LentSheet<'_>) -> bool
     requires { Part t.now i e × (i ≤ e) }
     ensures { Walked sheet.old sheet.new result (reached (is_name fail) in_a_list (forest_of t.now i e)) }
 {
@@ -63,7 +63,7 @@ fn in_list(t: &[u8], fail: usize, i: usize, e: usize, sheet: &mut Sheet<'_>) -> 
 
 // All the children, each by itself.
 #[cycle(reaching)]
-fn each(t: &[u8], fail: usize, i: usize, e: usize, sheet: &mut Sheet<'_>)
+fn each(t: &[u8], fail: usize, i: usize, e: usize, sheet: &mut LentSheet<'_>)
     requires { Part t.now i e × (i ≤ e) }
     ensures { Added sheet.old sheet.new (reached (is_name fail) each_one (forest_of t.now i e)).recs }
 {
@@ -74,7 +74,7 @@ fn each(t: &[u8], fail: usize, i: usize, e: usize, sheet: &mut Sheet<'_>)
 
 // The first child of the role, where there is one.
 #[cycle(reaching)]
-fn side(t: &[u8], fail: usize, role: usize, i: usize, e: usize, sheet: &mut Sheet<'_>) -> bool
+fn side(t: &[u8], fail: usize, role: usize, i: usize, e: usize, sheet: &mut LentSheet<'_>) -> bool
     requires { Part t.now i e × (i ≤ e) }
     ensures { Walked sheet.old sheet.new result (reached (is_name fail) (only role) (forest_of t.now i e)) }
 {
@@ -86,7 +86,7 @@ fn side(t: &[u8], fail: usize, role: usize, i: usize, e: usize, sheet: &mut Shee
 
 // Both sides are walked, whether or not the first aborts.
 #[cycle(reaching)]
-fn sides(t: &[u8], fail: usize, i: usize, e: usize, sheet: &mut Sheet<'_>) -> bool
+fn sides(t: &[u8], fail: usize, i: usize, e: usize, sheet: &mut LentSheet<'_>) -> bool
     requires { Part t.now i e × (i ≤ e) }
     ensures { Walked sheet.old sheet.new result (both_of (reached (is_name fail) (only 1) (forest_of t.now i e)) (reached (is_name fail) (only 2) (forest_of t.now i e))) }
 {
@@ -95,7 +95,7 @@ fn sides(t: &[u8], fail: usize, i: usize, e: usize, sheet: &mut Sheet<'_>) -> bo
     first && second
 }
 
-pub(crate) fn whole(t: &[u8], fail: usize, n: usize, sheet: &mut Sheet<'_>)
+pub(crate) fn whole(t: &[u8], fail: usize, n: usize, sheet: &mut LentSheet<'_>)
     requires { Part t.now 0 n }
     ensures { Added sheet.old sheet.new (reached (is_name fail) (only 0) (forest_of t.now 0 n)).recs }
 {

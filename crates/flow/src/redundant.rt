@@ -10,13 +10,13 @@ ghost use Rattle.answer.specs.Page.{Added};
 
 use crate::last::last_of;
 use crate::returns::is_valued;
-use answer::Sheet;
+use answer::LentSheet;
 use rules::Code;
 use tree::bytes::{kind_at, size_at};
 use tree::kinds::{Kind, Role};
 
 // 11 where node i is a continue that ends a loop's body.
-fn continues(t: &[u8], loops: bool, i: usize, sheet: &mut Sheet<'_>)
+fn continues(t: &[u8], loops: bool, i: usize, sheet: &mut LentSheet<'_>)
     ensures { Added sheet.old sheet.new (listed loops (plainly 11 (node_head t.now i) ∷ []) []) }
 {
     if loops {
@@ -25,7 +25,7 @@ fn continues(t: &[u8], loops: bool, i: usize, sheet: &mut Sheet<'_>)
 }
 
 // 10 where node i, a return, is bare and ends a def's body.
-fn bare(t: &[u8], loops: bool, i: usize, sheet: &mut Sheet<'_>)
+fn bare(t: &[u8], loops: bool, i: usize, sheet: &mut LentSheet<'_>)
     requires { Subtree t.now i }
     ensures { Added sheet.old sheet.new (listed (not loops && not (has 4 (forest_of t.now (i + 1) (i + size_at t.now i)))) (plainly 10 (node_head t.now i) ∷ []) []) }
 {
@@ -36,7 +36,7 @@ fn bare(t: &[u8], loops: bool, i: usize, sheet: &mut Sheet<'_>)
 
 // The statement at node i is last.
 #[cycle(checking)]
-fn check(t: &[u8], loops: bool, i: usize, sheet: &mut Sheet<'_>)
+fn check(t: &[u8], loops: bool, i: usize, sheet: &mut LentSheet<'_>)
     requires { Subtree t.now i }
     ensures { Added sheet.old sheet.new (tail_part (node_head t.now i).kind loops (node_head t.now i) (forest_of t.now (i + 1) (i + size_at t.now i)) (λ v. tail loops v (forest_of t.now (i + 1) (i + size_at t.now i)))) }
 {
@@ -57,7 +57,7 @@ fn check(t: &[u8], loops: bool, i: usize, sheet: &mut Sheet<'_>)
 }
 
 #[cycle(checking)]
-fn sides(t: &[u8], loops: bool, i: usize, e: usize, sheet: &mut Sheet<'_>)
+fn sides(t: &[u8], loops: bool, i: usize, e: usize, sheet: &mut LentSheet<'_>)
     requires { Part t.now i e × (i ≤ e) }
     ensures { Added sheet.old sheet.new (tail loops 1 (forest_of t.now i e) ++ tail loops 2 (forest_of t.now i e)) }
 {
@@ -67,7 +67,7 @@ fn sides(t: &[u8], loops: bool, i: usize, e: usize, sheet: &mut Sheet<'_>)
 
 // The last of the siblings from i up to e that has the role.
 #[cycle(checking)]
-fn last(t: &[u8], loops: bool, role: usize, i: usize, e: usize, sheet: &mut Sheet<'_>)
+fn last(t: &[u8], loops: bool, role: usize, i: usize, e: usize, sheet: &mut LentSheet<'_>)
     requires { Part t.now i e × (i ≤ e) }
     ensures { Added sheet.old sheet.new (tail loops role (forest_of t.now i e)) }
 {
@@ -77,7 +77,7 @@ fn last(t: &[u8], loops: bool, role: usize, i: usize, e: usize, sheet: &mut Shee
 }
 
 // What node i's body ends with, where it is a for or a def.
-fn body(t: &[u8], i: usize, sheet: &mut Sheet<'_>)
+fn body(t: &[u8], i: usize, sheet: &mut LentSheet<'_>)
     requires { Subtree t.now i }
     ensures { Added sheet.old sheet.new (redundant_part (node_head t.now i).kind (forest_of t.now (i + 1) (i + size_at t.now i))) }
 {
@@ -96,7 +96,7 @@ fn body(t: &[u8], i: usize, sheet: &mut Sheet<'_>)
 }
 
 // Everything below the root is looked at.
-pub(crate) fn redundant(t: &[u8], n: usize, sheet: &mut Sheet<'_>)
+pub(crate) fn redundant(t: &[u8], n: usize, sheet: &mut LentSheet<'_>)
     requires { Part t.now 0 n × (size_at t.now 0 ≡ n) }
     ensures { Added sheet.old sheet.new (redundant_walk (below_root (forest_of t.now 0 n))) }
 {

@@ -11,7 +11,7 @@ ghost use Rattle.answer.specs.Page.{Added};
 ghost use Rattle.flow.specs.Returns.{Tidy, TidyAt, DefAt, head_if, own};
 
 use crate::ends::final_return;
-use answer::{Note, Place, Sheet};
+use answer::{LentSheet, Note, Place};
 use rules::Code;
 use tree::bytes::{kind_at, size_at, value_at};
 use tree::children::child_of;
@@ -98,7 +98,7 @@ fn reason(t: &[u8], none: usize, i: usize) -> Option<usize>
 }
 
 // 8 at the def.
-fn missing_return(t: &[u8], fail: usize, d: Wanting, sheet: &mut Sheet<'_>)
+fn missing_return(t: &[u8], fail: usize, d: Wanting, sheet: &mut LentSheet<'_>)
     requires { Subtree t.now d.at }
     ensures { Added sheet.old sheet.new (listed (not (ends (λ v. eqb v fail) 1 (forest_of t.now (d.at + 1) (d.at + size_at t.now d.at)))) (missing (node_head t.now d.at) (node_spot t.now d.name) (node_head t.now d.why) ∷ []) []) }
 {
@@ -118,7 +118,7 @@ fn missing_return(t: &[u8], fail: usize, d: Wanting, sheet: &mut Sheet<'_>)
 }
 
 // 7 at node j, where it is a bare return.
-fn bare_return(t: &[u8], d: Wanting, j: usize, sheet: &mut Sheet<'_>)
+fn bare_return(t: &[u8], d: Wanting, j: usize, sheet: &mut LentSheet<'_>)
     requires { Subtree t.now j }
     ensures { Added sheet.old sheet.new (bare_recs (node_head t.now d.at) (node_spot t.now d.name) (node_head t.now d.why) (own (node_head t.now j) (forest_of t.now (j + 1) (j + size_at t.now j)))) }
 {
@@ -137,7 +137,7 @@ fn bare_return(t: &[u8], d: Wanting, j: usize, sheet: &mut Sheet<'_>)
 }
 
 // 7 for each bare return from node b up to e, of the def.
-fn bare_returns(t: &[u8], d: Wanting, b: usize, e: usize, sheet: &mut Sheet<'_>)
+fn bare_returns(t: &[u8], d: Wanting, b: usize, e: usize, sheet: &mut LentSheet<'_>)
     requires { Tidy t.now b e }
     ensures { Added sheet.old sheet.new (bare_recs (node_head t.now d.at) (node_spot t.now d.name) (node_head t.now d.why) (returns everything (forest_of t.now b e))) }
 {
@@ -150,7 +150,7 @@ fn bare_returns(t: &[u8], d: Wanting, b: usize, e: usize, sheet: &mut Sheet<'_>)
 }
 
 // The def at node i, which wants a value because of node why.
-fn check_for(t: &[u8], fail: usize, i: usize, why: usize, sheet: &mut Sheet<'_>)
+fn check_for(t: &[u8], fail: usize, i: usize, why: usize, sheet: &mut LentSheet<'_>)
     requires { DefAt t.now i }
     ensures { (is_none : ℕ → Bool) → Added sheet.old sheet.new (check_for (λ v. eqb v fail) is_none (node_head t.now i) (forest_of t.now (i + 1) (i + size_at t.now i)) (some (node_head t.now why))) }
 {
@@ -166,7 +166,7 @@ fn check_for(t: &[u8], fail: usize, i: usize, why: usize, sheet: &mut Sheet<'_>)
     bare_returns(t, d, b, b + size_at(t, b), sheet);
 }
 
-fn check_stmt(t: &[u8], fail: usize, none: usize, i: usize, sheet: &mut Sheet<'_>)
+fn check_stmt(t: &[u8], fail: usize, none: usize, i: usize, sheet: &mut LentSheet<'_>)
     requires { TidyAt t.now i }
     ensures { Added sheet.old sheet.new (check (λ v. eqb v fail) (λ v. eqb v none) (node_head t.now i).kind (node_head t.now i) (forest_of t.now (i + 1) (i + size_at t.now i))) }
 {
@@ -178,7 +178,7 @@ fn check_stmt(t: &[u8], fail: usize, none: usize, i: usize, sheet: &mut Sheet<'_
 }
 
 // Each def before what is below it.
-pub(crate) fn stmt(t: &[u8], fail: usize, none: usize, n: usize, sheet: &mut Sheet<'_>)
+pub(crate) fn stmt(t: &[u8], fail: usize, none: usize, n: usize, sheet: &mut LentSheet<'_>)
     requires { Tidy t.now 0 n }
     ensures { Added sheet.old sheet.new (returns_walk (λ v. eqb v fail) (λ v. eqb v none) (forest_of t.now 0 n)) }
 {

@@ -16,7 +16,7 @@ use Rattle.tree.specs.Forest.{Head, node_spot, node_head}
 use Rattle.rules.specs.Record.{Rec}
 use Rattle.rules.specs.Incompatible.{Deed, defines, repeats, First, first_of, was_free, free, defined, may_repeat, repeated, again}
 use Rattle.rules.specs.declared.Allowance.{Allowance}
-use Rattle.answer.specs.declared.Sheet.{Sheet}
+use Rattle.answer.specs.declared.LentSheet.{LentSheet}
 use Rattle.answer.specs.Page.{writes, page, Added}
 use Rattle.answer.proofs.Laws.{writes_none, writes_append}
 use Rattle.answer.proofs.Flat.{added_none, added_as}
@@ -73,7 +73,7 @@ at_set xs v x a d h = go (ℕ_discrete x v)
     go (yes e) = rw (eq-eqb x v e, e) (get_or-set_same xs v a d h)
     go (no n) = rw (ne_eqb x v n) (get_or-set_other xs v x a d n)
 
-pub does_none : (t : List ℕ) (d : Defined) (s : Sheet) → Does t d s [] d s
+pub does_none : (t : List ℕ) (d : Defined) (s : LentSheet) → Does t d s [] d s
 unfolding tells after
 does_none t d s = record { wrote = added_none s; then = refl }
 
@@ -84,7 +84,7 @@ ledger_same k l e p q =
     ∙ ap₂ (λ (f : ℕ → Option First) (g : ℕ → Bool). record { allowed = l.allowed; first = f; spent = g }) (fun_ext p) (fun_ext q)
 
 -- node i names value v
-module _ (t : List ℕ) (d : Defined) (s : Sheet) (i v : ℕ) (ev : v ≡ value_at t i) where
+module _ (t : List ℕ) (d : Defined) (s : LentSheet) (i v : ℕ) (ev : v ≡ value_at t i) where
   -- d' is d with w of that name
   module _ (d' : Defined) (w : Definition) (h : v < length d.names) (e : d'.allowed ≡ d.allowed) (a : d'.names ≡ set d.names v (Some w)) where
     each_name : (x : ℕ) → get_or d'.names x None ≡ elim (eqb x (value_at t i)) as (λ b. Maybe Definition) [ true ↦ Some w | false ↦ get_or d.names x None ]
@@ -138,14 +138,14 @@ module _ (t : List ℕ) (d : Defined) (s : Sheet) (i v : ℕ) (ev : v ≡ value_
         spent y u false q = rw q
 
   -- a name that was
-  pub ident_again : (f : Definition) {s' : Sheet} → get_or d.names v None ≡ Some f → Added s s' (again (node_head t f.node) (node_head t i) ∷ [])
+  pub ident_again : (f : Definition) {s' : LentSheet} → get_or d.names v None ≡ Some f → Added s s' (again (node_head t f.node) (node_head t i) ∷ [])
       → Does t d s (defines (eqb (kind_at t i) 47) (node_head t i) ∷ []) d s'
   unfolding tells after node_head node_spot
   ident_again f z w =
       let y : get_or d.names (value_at t i) None ≡ Some f = rw ev at z in record { wrote = rw y w; then = rw y }
 
   -- x = x that is not
-  pub repeat_not : {d' : Defined} {s' : Sheet} → kind_at t i ≡ 40 → free_now (ledger t d) v ≡ false
+  pub repeat_not : {d' : Defined} {s' : LentSheet} → kind_at t i ≡ 40 → free_now (ledger t d) v ≡ false
       → Does t d s (defines (eqb (kind_at t i) 47) (node_head t i) ∷ []) d' s' → Does t d s (repeats (node_head t i) ∷ []) d' s'
   unfolding tells after node_head node_spot
   repeat_not k f w =
@@ -164,15 +164,15 @@ module _ (t : List ℕ) (d : Defined) (v : ℕ) where
 
 -- ---- a loop: what is told so far, with what is still left to tell, comes to the whole
 
-pub record Telling (t : List ℕ) (d₀ : Defined) (s₀ : Sheet) (all : List Deed) (d : Defined) (s : Sheet) (left : List Deed) : Type 0 where
+pub record Telling (t : List ℕ) (d₀ : Defined) (s₀ : LentSheet) (all : List Deed) (d : Defined) (s : LentSheet) (left : List Deed) : Type 0 where
   pub yet : writes (page s) (tells left (ledger t d)) ≡ writes (page s₀) (tells all (ledger t d₀))
   pub same_room : s.out.ghost_name ≡ s₀.out.ghost_name
   pub then : after left (ledger t d) ≡ after all (ledger t d₀)
 
-pub telling : (t : List ℕ) (d : Defined) (s : Sheet) (all : List Deed) → Telling t d s all d s all
+pub telling : (t : List ℕ) (d : Defined) (s : LentSheet) (all : List Deed) → Telling t d s all d s all
 telling t d s all = record { yet = refl; same_room = refl; then = refl }
 
-pub telling_on : {t : List ℕ} {d₀ d d' : Defined} {s₀ s s' : Sheet} {all zs : List Deed} → Telling t d₀ s₀ all d s zs
+pub telling_on : {t : List ℕ} {d₀ d d' : Defined} {s₀ s s' : LentSheet} {all zs : List Deed} → Telling t d₀ s₀ all d s zs
     → (xs ys : List Deed) → Does t d s xs d' s' → zs ≡ xs ++ ys → Telling t d₀ s₀ all d' s' ys
 telling_on {t = t} {d = d} {s = s} g xs ys w e =
     record {
@@ -185,7 +185,7 @@ telling_on {t = t} {d = d} {s = s} g xs ys w e =
       then = rw w.then (sym (after_append xs ys (ledger t d)) ∙ ap (λ (l : List Deed). after l (ledger t d)) (sym e)) ∙ g.then;
     }
 
-pub telling_end : {t : List ℕ} {d₀ d : Defined} {s₀ s : Sheet} {all zs : List Deed} → Telling t d₀ s₀ all d s zs → zs ≡ [] → Does t d₀ s₀ all d s
+pub telling_end : {t : List ℕ} {d₀ d : Defined} {s₀ s : LentSheet} {all zs : List Deed} → Telling t d₀ s₀ all d s zs → zs ≡ [] → Does t d₀ s₀ all d s
 unfolding tells after
 telling_end {s = s} g e =
     record { wrote = record { so = sym (writes_none (page s)) ∙ (rw e at g.yet); same_room = g.same_room }; then = rw e at g.then }
@@ -208,7 +208,7 @@ nothing_known t allowed d e a =
     let z : (x : ℕ) → get_or d.names x None ≡ None = λ x. rw (a, at_none {A = Maybe Definition} 512 x None) in
     ledger_same (ledger t d) (ledger_of allowed [] []) e (λ x. rw (z x)) (λ x. rw (z x))
 
-pub all_judged : (t : List ℕ) (allowed : Allowance) (es : List Deed) (d : Defined) {d' : Defined} {s s' : Sheet}
+pub all_judged : (t : List ℕ) (allowed : Allowance) (es : List Deed) (d : Defined) {d' : Defined} {s s' : LentSheet}
     → d.allowed ≡ allowed → d.names ≡ replicate 512 None → Does t d s es d' s' → Added s s' (repeated allowed es [] [])
 all_judged t allowed es d e a w =
     added_as _ (judge_told allowed es [] [] ∙ ap (tells es) (sym (nothing_known t allowed d e a))) w.wrote

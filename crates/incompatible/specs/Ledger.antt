@@ -11,7 +11,7 @@ use Rattle.rules.specs.Order.{bind_of}
 use Rattle.rules.specs.Incompatible.{Deed, defines, repeats, First, again, may_repeat, defined_names, deed_part, self_set, tops, top_part}
 use Rattle.rules.specs.Incompatible.{Top, holding, assigning, modifying, defining, loading, aside}
 use Rattle.rules.specs.declared.Allowance.{Allowance}
-use Rattle.answer.specs.declared.Sheet.{Sheet}
+use Rattle.answer.specs.declared.LentSheet.{LentSheet}
 use Rattle.answer.specs.Page.{Added}
 use Rattle.incompatible.specs.declared.assigns.Defined.{Defined}
 use Rattle.incompatible.specs.declared.assigns.Definition.{Definition}
@@ -107,7 +107,7 @@ abbrev pub is_several : Head → Bool
 is_several h = eqb 0 h.role && eqb 41 h.kind
 
 -- what a function does that is given what is defined, d, and a sheet s: it leaves d' and s'
-pub record Does (t : List ℕ) (d : Defined) (s : Sheet) (es : List Deed) (d' : Defined) (s' : Sheet) : Type 0 where
+pub record Does (t : List ℕ) (d : Defined) (s : LentSheet) (es : List Deed) (d' : Defined) (s' : LentSheet) : Type 0 where
   pub wrote : Added s s' (tells es (ledger t d))
   pub then : ledger t d' ≡ after es (ledger t d)
 

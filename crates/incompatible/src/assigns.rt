@@ -8,7 +8,7 @@ ghost use Rattle.answer.specs.Page.{Added};
 ghost use Rattle.incompatible.specs.Ground.{Low, inside};
 ghost use Rattle.incompatible.specs.Ledger.{named_one, below_one, is_several, goes_in, top_of, deeds_one, top_assign, Does, SelfSet};
 
-use answer::{Note, Place, Sheet};
+use answer::{LentSheet, Note, Place};
 use rules::{Allowance, Code};
 use tree::bytes::{kind_at, role_at, size_at, value_at};
 use tree::children::child_of;
@@ -29,7 +29,7 @@ struct Defined {
     allowed: Allowance,
 }
 
-fn put_again(t: &[u8], old: usize, i: usize, sheet: &mut Sheet<'_>)
+fn put_again(t: &[u8], old: usize, i: usize, sheet: &mut LentSheet<'_>)
     ensures { Added sheet.old sheet.new (again (node_head t.now old) (node_head t.now i) ∷ []) }
 {
     sheet.put(
@@ -118,7 +118,7 @@ impl Defined {
     }
 
     // The name at node i is defined, or defined again.
-    fn ident(&mut self, t: &[u8], i: usize, sheet: &mut Sheet<'_>)
+    fn ident(&mut self, t: &[u8], i: usize, sheet: &mut LentSheet<'_>)
         requires { (value_at t.now i < 512) × (i < 1024) }
         ensures { Does t.now self.old sheet.old (defines (eqb (kind_at t.now i) 47) (node_head t.now i) ∷ []) self.new sheet.new }
     {
@@ -134,7 +134,7 @@ impl Defined {
         }
     }
 
-    fn repeat(&mut self, t: &[u8], x: usize, sheet: &mut Sheet<'_>)
+    fn repeat(&mut self, t: &[u8], x: usize, sheet: &mut LentSheet<'_>)
         requires { (value_at t.now x < 512) × (x < 1024) × (kind_at t.now x ≡ 40) }
         ensures { Does t.now self.old sheet.old (repeats (node_head t.now x) ∷ []) self.new sheet.new }
     {
@@ -151,7 +151,7 @@ impl Defined {
     }
 
     // Below several: role 0 only.
-    fn below_at(&mut self, t: &[u8], j: usize, sheet: &mut Sheet<'_>)
+    fn below_at(&mut self, t: &[u8], j: usize, sheet: &mut LentSheet<'_>)
         requires { Low t.now (j + 1) × (j < 1024) }
         ensures { Does t.now self.old sheet.old (below_one (node_head t.now j)) self.new sheet.new }
     {
@@ -160,7 +160,7 @@ impl Defined {
         }
     }
 
-    fn below(&mut self, t: &[u8], i: usize, e: usize, sheet: &mut Sheet<'_>)
+    fn below(&mut self, t: &[u8], i: usize, e: usize, sheet: &mut LentSheet<'_>)
         requires { Part t.now i e × Low t.now e }
         ensures { Does t.now self.old sheet.old (defined_names 0 (forest_of t.now i e)) self.new sheet.new }
     {
@@ -172,7 +172,7 @@ impl Defined {
         }
     }
 
-    fn lvalue(&mut self, t: &[u8], role: usize, j: usize, sheet: &mut Sheet<'_>)
+    fn lvalue(&mut self, t: &[u8], role: usize, j: usize, sheet: &mut LentSheet<'_>)
         requires { Subtree t.now j × Low t.now (j + size_at t.now j) }
         ensures { Does t.now self.old sheet.old (named_one role (node_head t.now j) (inside t.now j)) self.new sheet.new }
     {
@@ -188,7 +188,7 @@ impl Defined {
     }
 
     // The names of a role among the siblings from i up to e, also those of several.
-    fn visit_lvalue(&mut self, t: &[u8], role: usize, i: usize, e: usize, sheet: &mut Sheet<'_>)
+    fn visit_lvalue(&mut self, t: &[u8], role: usize, i: usize, e: usize, sheet: &mut LentSheet<'_>)
         requires { Part t.now i e × Low t.now e }
         ensures { Does t.now self.old sheet.old (defined_names role (forest_of t.now i e)) self.new sheet.new }
     {
@@ -197,7 +197,7 @@ impl Defined {
         }
     }
 
-    fn assign(&mut self, t: &[u8], i: usize, e: usize, sheet: &mut Sheet<'_>)
+    fn assign(&mut self, t: &[u8], i: usize, e: usize, sheet: &mut LentSheet<'_>)
         requires { Part t.now i e × (i ≤ e) × Low t.now e }
         ensures { Does t.now self.old sheet.old (top_assign (forest_of t.now i e)) self.new sheet.new }
     {
@@ -207,7 +207,7 @@ impl Defined {
         }
     }
 
-    fn stmt(&mut self, t: &[u8], i: usize, sheet: &mut Sheet<'_>)
+    fn stmt(&mut self, t: &[u8], i: usize, sheet: &mut LentSheet<'_>)
         requires { Subtree t.now i × Low t.now (i + size_at t.now i) }
         ensures { Does t.now self.old sheet.old (deeds_one (node_head t.now i) (inside t.now i)) self.new sheet.new }
     {
@@ -225,7 +225,7 @@ impl Defined {
     }
 
     // 15: every statement of the top level, under lists, if, if-else and for too.
-    fn stmts(&mut self, t: &[u8], n: usize, sheet: &mut Sheet<'_>)
+    fn stmts(&mut self, t: &[u8], n: usize, sheet: &mut LentSheet<'_>)
         requires { Part t.now 0 n × Low t.now n }
         ensures { Does t.now self.old sheet.old (deeds (forest_of t.now 0 n)) self.new sheet.new }
     {
@@ -242,7 +242,7 @@ pub(crate) fn duplicate_top_level_assignment(
     t: &[u8],
     allowed: Allowance,
     n: usize,
-    sheet: &mut Sheet<'_>,
+    sheet: &mut LentSheet<'_>,
 )
     requires { Part t.now 0 n × Low t.now n }
     ensures { Added sheet.old sheet.new (repeated allowed (deeds (forest_of t.now 0 n)) [] []) }

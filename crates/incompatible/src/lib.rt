@@ -11,7 +11,7 @@ ghost use Rattle.rules.specs.Calls.{incompatible_call};
 ghost use Rattle.incompatible.specs.Ground.{Low};
 ghost use Rattle.incompatible.specs.Five.{is, five};
 
-use answer::{Pass, Sheet, answered};
+use answer::{LentSheet, Pass, answered};
 use rules::{Allowance, Answer, CODES};
 use tree::{Facts, judge};
 use types::Types;
@@ -33,7 +33,7 @@ impl Pass for Walk<'_> {
 
     ghost records = { λ w. incompatible w.allowed (is w.names.call) (five w.names) (forest_of w.t.now 0 w.nodes) };
 
-    fn lint(&self, sheet: &mut Sheet<'_>) {
+    fn lint(&self, sheet: &mut LentSheet<'_>) {
         self.names.bad_type_equality(self.t, self.nodes, sheet);
         assigns::duplicate_top_level_assignment(self.t, self.allowed, self.nodes, sheet);
     }

@@ -8,7 +8,7 @@ ghost use Rattle.answer.specs.Page.{Added};
 ghost use Rattle.incompatible.specs.Ground.{inside};
 ghost use Rattle.incompatible.specs.Five.{is, five, type_call, NumbersOf, TypeAt};
 
-use answer::{Note, Place, Sheet};
+use answer::{LentSheet, Note, Place};
 use rules::Code;
 use tree::bytes::{kind_at, size_at, value_at};
 use tree::children::child_of;
@@ -106,7 +106,7 @@ impl Types {
             && one_argument(t, j + 1, end)
     }
 
-    fn match_bad_type_equality(&self, t: &[u8], i: usize, sheet: &mut Sheet<'_>)
+    fn match_bad_type_equality(&self, t: &[u8], i: usize, sheet: &mut LentSheet<'_>)
         requires { Subtree t.now i }
         ensures { Added sheet.old sheet.new (check_at (is self.now.call) (five self.now) (node_head t.now i) (inside t.now i)) }
     {
@@ -132,7 +132,7 @@ impl Types {
     }
 
     // 14, each node before its children.
-    pub(crate) fn bad_type_equality(&self, t: &[u8], n: usize, sheet: &mut Sheet<'_>)
+    pub(crate) fn bad_type_equality(&self, t: &[u8], n: usize, sheet: &mut LentSheet<'_>)
         requires { Part t.now 0 n }
         ensures { Added sheet.old sheet.new (each (check_at (is self.now.call) (five self.now)) (forest_of t.now 0 n)) }
     {

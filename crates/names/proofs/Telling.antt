@@ -17,7 +17,7 @@ use Rattle.rules.specs.Outcome.{work_words, cleared}
 use Rattle.rules.specs.Calls.{done_with_work}
 use Rattle.rules.specs.Afterwards.{Gives}
 use Rattle.rules.proofs.Answered.{answer_same, done_short, work_lacking, with_work}
-use Rattle.answer.specs.declared.Sheet.{Sheet}
+use Rattle.answer.specs.declared.LentSheet.{LentSheet}
 use Rattle.answer.specs.Page.{Page, page, Added}
 use Rattle.answer.proofs.Whole.{counted, listed_done}
 use Rattle.answer.specs.Answers.{Answers}
@@ -49,12 +49,12 @@ module _ (t w : List ℕ) (n : ℕ) (few : n ≤ 1024) (o y : List ℕ) (a : Ans
       let l : length o < n * width = (div-lt_iff_lt-mul {k = width} {x = length o} {y = n} (omega arith)).0 h in
       record { answers = λ u f v. rw (done_short (records_of t w n) u o y v (omega (arith, k, l)), answer_same a (p ∙ ap (λ (m : ℕ). Err (AnswerRoom m)) (sym k)) q) }
 
-  pub listed_of : (s c : Sheet) → n ≤ length o / width → page s ≡ record { out = o; count = 0; tally = y }
-      → Added s c (records_of t w n) → a.outcome ≡ Ok c.count → a.tally ≡ c.tally
+  pub listed_of : (s c : LentSheet) → n ≤ length o / width → page s ≡ record { out = o; count = 0; tally = y }
+      → Added s c (records_of t w n) → a.outcome ≡ Ok c.sheet.count → a.tally ≡ c.sheet.tally
       → {o₁ : List ℕ} → o₁ ≡ c.out.now → Answers (records_of t w n) o y a o₁
   listed_of s c h start wr p q e =
-      let fresh : s.count ≡ 0 = ap (λ (z : Page). z.count) start in
-      let k : c.count ≡ n = counted (records_of t w n) few_records o y s c fresh wr ∙ records_length t w n in
+      let fresh : s.sheet.count ≡ 0 = ap (λ (z : Page). z.count) start in
+      let k : c.sheet.count ≡ n = counted (records_of t w n) few_records o y s c fresh wr ∙ records_length t w n in
       rw e (listed_done (records_of t w n) few_records o y s c fresh wr a s c (rw k h) start wr p q)
 
 -- a part of k words that came back zero

@@ -16,7 +16,7 @@ ghost use Rattle.names.specs.Records.{record_in, records_of, met_words};
 ghost use Rattle.scope.specs.State.{out_of};
 ghost use Rattle.names.specs.Walk.{module_of, Ready};
 
-use answer::{Note, Place, Sheet, refused};
+use answer::{LentSheet, Note, Place, refused};
 use meeting::first_met;
 use rules::{Answer, CODES, Refusal, WIDTH, WORK_WORDS};
 use scope::Scope;
@@ -49,7 +49,7 @@ fn first_nodes(t: &[u8], n: usize, w: &mut [u16], r: usize)
 }
 
 // The record of the k-th warning goes onto the sheet: its value is the name.
-fn told(t: &[u8], w: &[u16], k: usize, sheet: &mut Sheet<'_>)
+fn told(t: &[u8], w: &[u16], k: usize, sheet: &mut LentSheet<'_>)
     requires { k < 1024 }
     ensures { Added sheet.old sheet.new (record_in t.now w.now k ∷ []) }
 {
@@ -68,7 +68,7 @@ fn told(t: &[u8], w: &[u16], k: usize, sheet: &mut Sheet<'_>)
 }
 
 // The records of the first n warnings go onto the sheet.
-fn records(t: &[u8], w: &[u16], n: usize, sheet: &mut Sheet<'_>)
+fn records(t: &[u8], w: &[u16], n: usize, sheet: &mut LentSheet<'_>)
     requires { n ≤ 1024 }
     ensures { Added sheet.old sheet.new (records_of t.now w.now n) }
 {
@@ -86,7 +86,7 @@ fn answer_of(t: &[u8], w: &[u16], n: usize, out: &mut [u32], tally: [usize; CODE
     if out.len() / WIDTH < n {
         return refused(Refusal::AnswerRoom(n));
     }
-    let mut sheet = Sheet::new(out, tally);
+    let mut sheet = LentSheet::new(out, tally);
     records(t, w, n, &mut sheet);
     sheet.listed()
 }

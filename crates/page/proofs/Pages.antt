@@ -5,8 +5,8 @@ use native.Mathlib.Numerals.{add-one}
 use mathlib.Core.Path.{◌≡◌, refl, sym, ap, ap₂, subst, ◌∙◌}
 use mathlib.Core.Bool.{Bool, true, false, cond}
 use mathlib.Core.List.{List, [], ◌∷◌, ◌++◌, append_assoc, append-nil}
-use lib.ListN.{length, set, take, drop, length-set, length-append}
-use lib.Seq.{set-append_seam, set_out, take-append_seam}
+use lib.ListN.{length, set, take, drop, length-set, length-append, length-drop, take-append-drop}
+use lib.Seq.{set-append_seam, set_out, take-append_seam, length-take-le}
 use lib.Dec.{ltb}
 use borrow.Author.Tests.{lt-ltb, ltb-true, ltb-false}
 use Rattle.base.specs.Count.{one_more}
@@ -61,6 +61,16 @@ pub written : (o s : List ℕ) → length s ≤ length o → length s ≤ 184467
 written o s h m =
     let z : 0 + length s ≡ length s = omega arith in
     written_after s [] o h (omega arith) ∙ ap (λ (k : ℕ). page (s ++ drop (length s) o) k) z
+
+-- bytes laid at once where there is room for all of them
+pub copied : (o s : List ℕ) (n k : ℕ) → n + length s ≤ length o → length o ≤ 18446744073709551615 → k ≡ length s
+    → writes (page o n) s ≡ page (take n o ++ (s ++ drop k (drop n o))) (n + length s)
+copied o s n k h m q =
+    let w : length (take n o) ≡ n = length-take-le n o (omega arith) in
+    let l : length s ≤ length (drop n o) = rw length-drop (omega arith) in
+    ap₂ (λ (x : List ℕ) (i : ℕ). writes (page x i) s) (sym (take-append-drop n o)) (sym w)
+    ∙ written_after s (take n o) (drop n o) l (omega (arith, w))
+    ∙ ap₂ (λ (i j : ℕ). page (take n o ++ (s ++ drop j (drop n o))) (i + length s)) w (sym q)
 
 -- a count that did not come to the largest number is exact
 pub counted : (o s : List ℕ) (n : ℕ) → (writes (page o n) s).count ≤ 18446744073709551614 → (writes (page o n) s).count ≡ n + length s
@@ -134,6 +144,13 @@ stands {o} {o'} {n} s w h m =
 pub as_wrote : {o o' : List ℕ} {n k : ℕ} (s : List ℕ) → page o' n ≡ writes (page o 0) s → n ≤ k → Wrote o 0 o' n k (λ rest. s ++ rest)
 as_wrote {o} s e h = record {
   so = λ rest. ap (λ (p : Page). writes p rest) e ∙ sym (writes_append (page o 0) s rest);
+  most = omega arith;
+}
+
+pub copied_wrote : (o s : List ℕ) (n k : ℕ) → n + length s ≤ length o → length o ≤ 18446744073709551615 → k ≡ length s
+    → Wrote o n (take n o ++ (s ++ drop k (drop n o))) (n + length s) (length s) (λ rest. s ++ rest)
+copied_wrote o s n k h m q = record {
+  so = λ rest. ap (λ (p : Page). writes p rest) (sym (copied o s n k h m q)) ∙ sym (writes_append (page o n) s rest);
   most = omega arith;
 }
 

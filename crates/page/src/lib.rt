@@ -32,12 +32,25 @@ impl<'a> Writer<'a> {
         self.count = self.count.saturating_add(1);
     }
 
-    // Bytes as they stand.
-    pub fn raw(&mut self, s: &[u8])
+    // One byte after the other: those for which there is no room are only counted.
+    fn one_by_one(&mut self, s: &[u8])
         ensures { Added self.old self.new (length s.now) (λ rest. s.now ++ rest) }
     {
         for &b in s {
             self.put(b);
+        }
+    }
+
+    // Bytes as they stand, at once where there is room for all of them.
+    pub fn raw(&mut self, s: &[u8])
+        ensures { Added self.old self.new (length s.now) (λ rest. s.now ++ rest) }
+    {
+        if self.count <= self.out.len() && s.len() <= self.out.len() - self.count {
+            let end = self.count + s.len();
+            self.out[self.count..end].copy_from_slice(s);
+            self.count = end;
+        } else {
+            self.one_by_one(s);
         }
     }
 

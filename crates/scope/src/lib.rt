@@ -193,11 +193,12 @@ fn late_one(t: &[u8], w: &mut [u16], at: Places, n: usize, i: usize) -> usize
 fn spared_at(t: &[u8], top: bool, held: bool, i: usize) -> bool
     ensures { result ≡ spared_at t.now top held i }
 {
-    let underscored = begins_underscore(t, value_at(t, i));
+    // The walk over the values that begins_underscore takes comes last, and only where it decides.
     if top {
-        held && code_of(kind_at(t, i)) == Code::UnusedAssign as usize && !underscored
+        held && code_of(kind_at(t, i)) == Code::UnusedAssign as usize
+            && !begins_underscore(t, value_at(t, i))
     } else {
-        underscored
+        begins_underscore(t, value_at(t, i))
     }
 }
 

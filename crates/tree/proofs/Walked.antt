@@ -1,11 +1,12 @@
 -- A walk over siblings, by what holds of the node where it stands. Assumes nothing.
-use Prim.Native.Nat.{ℕ, ◌+◌, ◌≤◌, ◌<◌}
+use Rattle.std.specs.Prelude.{Option, Some, None}
+use Prim.Native.Nat.{ℕ, zero, suc, ◌+◌, ◌≤◌, ◌<◌}
 use native.Mathlib.Omega.{arith}
-use mathlib.Core.Path.{◌≡◌, ◌∙◌}
+use mathlib.Core.Path.{◌≡◌, refl, sym, ap, ◌∙◌}
 use mathlib.Core.List.{List}
 use Rattle.tree.specs.Bytes.{size_at}
 use Rattle.tree.specs.code.Part.{Part}
-use Rattle.tree.specs.code.Siblings.{Next, Goes}
+use Rattle.tree.specs.code.Siblings.{Next, Goes, goes}
 use Rattle.tree.specs.declared.siblings.SiblingWalk.{SiblingWalk}
 use Rattle.tree.proofs.Laws.{sized, ended, rest}
 
@@ -20,8 +21,8 @@ module _ {t : List ℕ} {e : ℕ} {P : ℕ → Type 0} where
   along_start is v q = rw is (record { same = v.0; ends = v.2; so = rw v.1 q })
 
   -- at the end
-  pub along_end : {a : SiblingWalk} → Along t e a P → a.end ≤ a.at → (e ≤ a.at) × P a.at
-  along_end w h = (omega (arith, w.ends), w.so)
+  pub along_end : {a b : SiblingWalk} → Along t e a P → (a.end ≤ a.at) × (b ≡ a) → (e ≤ a.at) × P a.at
+  along_end w h = let q = h.0 in (omega (arith, w.ends), w.so)
 
   module _ {a b : SiblingWalk} {j : ℕ} (w : Along t e a P) (g : Goes a j b) where
     -- at a sibling
@@ -52,8 +53,8 @@ module _ {t : List ℕ} {e : ℕ} {P : ℕ → Type 0} where
   pub walk_start : {i : ℕ} {v w : SiblingWalk} → w ≡ v → (v.t.now ≡ t) × (v.at ≡ i) × (v.end ≡ e) → Part t i e → P i → Walked t e w P
   walk_start is v p q = along_start is v (record { part = p; so = q })
 
-  pub walk_end : {a : SiblingWalk} → Walked t e a P → a.end ≤ a.at → (e ≤ a.at) × P a.at
-  walk_end w h = (omega (arith, w.ends), w.so.so)
+  pub walk_end : {a b : SiblingWalk} → Walked t e a P → (a.end ≤ a.at) × (b ≡ a) → (e ≤ a.at) × P a.at
+  walk_end w h = let q = h.0 in (omega (arith, w.ends), w.so.so)
 
   module _ {a b : SiblingWalk} {j : ℕ} (w : Walked t e a P) (g : Goes a j b) where
     pub walk_at : Part t j e × (j < e) × P j
@@ -62,3 +63,27 @@ module _ {t : List ℕ} {e : ℕ} {P : ℕ → Type 0} where
     pub walk_on : {Q : ℕ → Type 0} → (Part t j e → j < e → P j → Q (j + size_at t j)) → Walked t e b Q
     walk_on {Q} f =
         along_on w g (λ x h. record { part = rw (next_at x h.part) (rest h.part x.within); so = rw (next_at x h.part) (f h.part x.within h.so) })
+
+-- ---- a step is the only one
+
+pub next_one : {t : List ℕ} {e j n m : ℕ} → Next t e j n → Next t e j m → n ≡ m
+next_one {t} {e} {j} {n} {m} x y = go (size_at t j) refl
+  where
+    go : (s : ℕ) → s ≡ size_at t j → n ≡ m
+    go zero q = x.stuck (sym q) ∙ sym (y.stuck (sym q))
+    go (suc s) q = x.far (omega (arith, q)) ∙ sym (y.far (omega (arith, q)))
+
+-- Two outcomes of a step of walk a are the same: what it gives, where it stands then, its end and its file.
+pub record Same (r q : Option ℕ) (b c : SiblingWalk) : Type 0 where
+  pub gives : r ≡ q
+  pub at : b.at ≡ c.at
+  pub end : b.end ≡ c.end
+  pub file : b.t.now ≡ c.t.now
+
+pub goes_one : (a b c : SiblingWalk) (r q : Option ℕ) → goes a r b → goes a q c → Same r q b c
+goes_one a b c None None g h = rw (g.1, h.1) (record { gives = refl; at = refl; end = refl; file = refl })
+goes_one a b c None (Some j) g h = absurd (let x = g.0 in omega (arith, h.here, h.next.within))
+goes_one a b c (Some i) None g h = absurd (let x = h.0 in omega (arith, g.here, g.next.within))
+goes_one a b c (Some i) (Some j) g h =
+    let e : i ≡ j = g.here ∙ sym h.here in
+    record { gives = ap Some e; at = next_one (rw e at (g.next)) h.next; end = g.ends ∙ sym h.ends; file = g.same ∙ sym h.same }

@@ -139,8 +139,8 @@ pub fn key_numbers(t: &[u8], mode: Mode) -> [u16; 512]
     keys
 }
 
-// The table's number for value v; 0 past its end.
-fn entry_of(numbers: &[u16], v: usize) -> usize
+// The table's number for value v; 0 past its end. Equal keys have one number, whatever their forms.
+pub fn entry_of(numbers: &[u16], v: usize) -> usize
     ensures { result ≡ get_or numbers.now v 0 }
 {
     match numbers.get(v) {

@@ -19,7 +19,7 @@ spared_open t held i h k false e = sym h ∙ spared_held t held i k e
 
 pub returns-then-code_of : goal.returns-then-code_of
 returns-then-code_of c =
-    let u : underscored (table_of c.args.t.now) (value_at c.args.t.now c.args.i) ≡ c.begins_underscore-underscored.result = rw (← c.value_at.ensures.0) (sym c.begins_underscore-underscored.ensures) in
+    let u : underscored (table_of c.args.t.now) (value_at c.args.t.now c.args.i) ≡ c.begins_underscore.result = rw (← c.value_at.ensures.0) (sym c.begins_underscore.ensures) in
     elim c.if-held.branch [
       | then-held w ↦
           let q = w.code_of.ensures ∙ ap (λ (k : ℕ). unused (sort_of k)) w.kind_at.ensures.0 in
@@ -38,4 +38,4 @@ returns-else-code_of c =
 
 pub returns-else-top : goal.returns-else-top
 returns-else-top c =
-    rw (c.if-top.false, c.begins_underscore-underscored.ensures, c.value_at.ensures.0) (spared_below c.args.t.now c.args.held c.args.i)
+    rw (c.if-top.false, c.begins_underscore-else-top.ensures, c.value_at-else-top.ensures.0) (spared_below c.args.t.now c.args.held c.args.i)

@@ -1,6 +1,6 @@
 use mathlib.Core.Path.{sym, ◌∙◌}
 use Rattle.tree.proofs.Walked.{walk_start, walk_end, walk_on}
-use Rattle.dubious.proofs.Steps.{scan_start, scan_hit, scan_over, scan_end}
+use Rattle.dubious.proofs.Steps.{scan_start, scan_hit, scan_over, scan_end, equal_by}
 use Rattle.dubious.proofs.Walk.previous.Goals as goal
 
 pub loop-m-init : goal.loop-m-init
@@ -10,11 +10,11 @@ loop-m-init c =
 
 pub loop-m-preserved-then-is_equal_key : goal.loop-m-preserved-then-is_equal_key
 loop-m-preserved-then-is_equal_key c =
-    walk_on c.loop-m.invariant c.in-Some.ensures.steps (λ p lt s. scan_hit _ _ _ _ _ _ p lt s (sym c.if-is_equal_key.true ∙ c.is_equal_key.ensures))
+    walk_on c.loop-m.invariant c.in-Some.ensures.steps (λ p lt s. scan_hit _ _ _ _ _ _ p lt s (equal_by _ _ _ _ c.number-number.ensures (sym c.if-is_equal_key.true ∙ c.is_equal_key.ensures)))
 
 pub loop-m-preserved : goal.loop-m-preserved
 loop-m-preserved c =
-    walk_on c.loop-m.invariant c.in-Some.ensures.steps (λ p lt s. scan_over _ _ _ _ _ _ p lt s (sym c.if-is_equal_key.false ∙ c.is_equal_key.ensures))
+    walk_on c.loop-m.invariant c.in-Some.ensures.steps (λ p lt s. scan_over _ _ _ _ _ _ p lt s (equal_by _ _ _ _ c.number-number.ensures (sym c.if-is_equal_key.false ∙ c.is_equal_key.ensures)))
 
 pub returns : goal.returns
 returns c =
