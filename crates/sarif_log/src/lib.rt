@@ -48,6 +48,13 @@ fn standing(w: &mut Writer<'_>, code: u32)
     }
 }
 
+// 0 where a span ends before it begins.
+fn length(at: Ends) -> u32
+    ensures { result ≡ at.end - at.begin }
+{
+    at.end.saturating_sub(at.begin)
+}
+
 // A location but for its closing brace.
 fn place(w: &mut Writer<'_>, at: Ends)
     ensures { Added w.old w.new 150 (open_place (span_from at)) }
@@ -57,7 +64,7 @@ fn place(w: &mut Writer<'_>, at: Ends)
     );
     w.number(at.begin);
     w.raw(b",\"byteLength\":");
-    w.number(at.end.saturating_sub(at.begin));
+    w.number(length(at));
     w.raw(b"}}");
 }
 
