@@ -72,6 +72,33 @@ copied o s n k h m q =
     ∙ written_after s (take n o) (drop n o) l (omega (arith, w))
     ∙ ap₂ (λ (i j : ℕ). page (take n o ++ (s ++ drop j (drop n o))) (i + length s)) w (sym q)
 
+-- bytes for which there is no room are only counted
+uncounted : (n k : ℕ) → n ≤ 18446744073709551615 → min (one_more n + k) 18446744073709551615 ≡ min (n + suc k) 18446744073709551615
+uncounted n k h = go (ltb n 18446744073709551615) refl
+  where
+    go : (t : Bool) → ltb n 18446744073709551615 ≡ t → min (one_more n + k) 18446744073709551615 ≡ min (n + suc k) 18446744073709551615
+    go true q = let z = one_more_below n (ltb-true n 18446744073709551615 q) in omega arith
+    go false q = let z : one_more n ≡ n = rw q in let l = ltb-false n 18446744073709551615 q in omega arith
+
+one_more_least : (n : ℕ) → n ≤ one_more n
+one_more_least n = go (ltb n 18446744073709551615)
+  where
+    go : (t : Bool) → n ≤ cond t (n + 1) n
+    go true = omega arith
+    go false = omega arith
+
+one_more_fits : (n : ℕ) → n ≤ 18446744073709551615 → one_more n ≤ 18446744073709551615
+one_more_fits n h = omega (arith, one_more_min n h)
+
+pub unroomed : (o s : List ℕ) (n : ℕ) → length o ≤ n → n ≤ 18446744073709551615
+    → writes (page o n) s ≡ page o (min (n + length s) 18446744073709551615)
+unfolding writes write
+unroomed o [] n h m = let z : n ≡ min (n + 0) 18446744073709551615 = omega arith in ap (λ (k : ℕ). page o k) z
+unroomed o (b ∷ s) n h m =
+    ap (λ (x : List ℕ). writes (page x (one_more n)) s) (set_out o n b h)
+    ∙ unroomed o s (one_more n) (omega (arith, one_more_least n)) (one_more_fits n m)
+    ∙ ap (λ (k : ℕ). page o k) (uncounted n (length s) m)
+
 -- a count that did not come to the largest number is exact
 pub counted : (o s : List ℕ) (n : ℕ) → (writes (page o n) s).count ≤ 18446744073709551614 → (writes (page o n) s).count ≡ n + length s
 unfolding writes write
@@ -151,6 +178,13 @@ pub copied_wrote : (o s : List ℕ) (n k : ℕ) → n + length s ≤ length o �
     → Wrote o n (take n o ++ (s ++ drop k (drop n o))) (n + length s) (length s) (λ rest. s ++ rest)
 copied_wrote o s n k h m q = record {
   so = λ rest. ap (λ (p : Page). writes p rest) (sym (copied o s n k h m q)) ∙ sym (writes_append (page o n) s rest);
+  most = omega arith;
+}
+
+pub unroomed_wrote : (o s : List ℕ) (n k : ℕ) → length o ≤ n → n ≤ 18446744073709551615 → k ≡ min (n + length s) 18446744073709551615
+    → Wrote o n o k (length s) (λ rest. s ++ rest)
+unroomed_wrote o s n k h m q = record {
+  so = λ rest. ap (λ (p : Page). writes p rest) (ap (λ (i : ℕ). page o i) q ∙ sym (unroomed o s n h m)) ∙ sym (writes_append (page o n) s rest);
   most = omega arith;
 }
 

@@ -41,7 +41,7 @@ impl<'a> Writer<'a> {
         }
     }
 
-    // Bytes as they stand, at once where there is room for all of them.
+    // Bytes as they stand, at once where there is room for all of them or for none.
     pub fn raw(&mut self, s: &[u8])
         ensures { Added self.old self.new (length s.now) (λ rest. s.now ++ rest) }
     {
@@ -49,6 +49,8 @@ impl<'a> Writer<'a> {
             let end = self.count + s.len();
             self.out[self.count..end].copy_from_slice(s);
             self.count = end;
+        } else if self.out.len() <= self.count {
+            self.count = self.count.saturating_add(s.len());
         } else {
             self.one_by_one(s);
         }

@@ -5,7 +5,7 @@ use mathlib.Core.Path.{refl, sym, ap, subst, ◌∙◌}
 use mathlib.Core.List.{List, ◌++◌}
 use lib.ListN.{length, take, drop}
 use Rattle.page.specs.Page.{Wrote}
-use Rattle.page.proofs.Pages.{copied_wrote}
+use Rattle.page.proofs.Pages.{copied_wrote, unroomed_wrote}
 use Rattle.page.proofs.Writer.raw.Goals as goal
 
 pub returns-then-s-self : goal.returns-then-s-self
@@ -14,5 +14,13 @@ returns-then-s-self c =
     let s = c.args.s.now in
     record {
       wrote = rw (c.copy_from_slice.ensures.after) (copied_wrote a.out.now s a.count (a.count + length s - a.count) (omega arith) (omega arith) (omega arith));
+      same_room = refl;
+    }
+
+pub returns-then-self-2 : goal.returns-then-self-2
+returns-then-self-2 c =
+    let a = c.args.self.now in
+    record {
+      wrote = unroomed_wrote a.out.now c.args.s.now a.count c.saturating_add-self.result c.if-self-2.true (omega arith) c.saturating_add-self.ensures;
       same_room = refl;
     }
