@@ -1,10 +1,8 @@
--- Where there is room for all bytes, and where there isn't. Assumes nothing.
+-- Where there is room for all bytes, and where there is for none. Assumes nothing.
 use Prim.Native.Nat.{◌+◌, ◌-◌}
 use native.Mathlib.Omega.{arith}
-use mathlib.Core.Path.{refl, sym, ap, subst, ◌∙◌}
-use mathlib.Core.List.{List, ◌++◌}
-use lib.ListN.{length, take, drop}
-use Rattle.page.specs.Page.{Wrote}
+use mathlib.Core.Path.{refl}
+use lib.ListN.{length}
 use Rattle.page.proofs.Pages.{copied_wrote, unroomed_wrote}
 use Rattle.page.proofs.Writer.raw.Goals as goal
 
