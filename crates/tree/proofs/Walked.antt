@@ -6,7 +6,7 @@ use mathlib.Core.Path.{◌≡◌, refl, sym, ap, ◌∙◌}
 use mathlib.Core.List.{List}
 use Rattle.tree.specs.Bytes.{size_at}
 use Rattle.tree.specs.code.Part.{Part}
-use Rattle.tree.specs.code.Siblings.{Next, Goes, goes}
+use Rattle.tree.specs.code.Siblings.{Next, Goes, Only, goes}
 use Rattle.tree.specs.declared.siblings.SiblingWalk.{SiblingWalk}
 use Rattle.tree.proofs.Laws.{sized, ended, rest}
 
@@ -21,8 +21,8 @@ module _ {t : List ℕ} {e : ℕ} {P : ℕ → Type 0} where
   along_start is v q = rw is (record { same = v.0; ends = v.2; so = rw v.1 q })
 
   -- at the end
-  pub along_end : {a b : SiblingWalk} → Along t e a P → (a.end ≤ a.at) × (b ≡ a) → (e ≤ a.at) × P a.at
-  along_end w h = let q = h.0 in (omega (arith, w.ends), w.so)
+  pub along_end : {a : SiblingWalk} → Along t e a P → a.end ≤ a.at → (e ≤ a.at) × P a.at
+  along_end w h = (omega (arith, w.ends), w.so)
 
   module _ {a b : SiblingWalk} {j : ℕ} (w : Along t e a P) (g : Goes a j b) where
     -- at a sibling
@@ -36,6 +36,10 @@ module _ {t : List ℕ} {e : ℕ} {P : ℕ → Type 0} where
     pub along_on : {Q : ℕ → Type 0} → (Next t e j b.at → P j → Q b.at) → Along t e b Q
     along_on f =
         record { same = g.same ∙ w.same; ends = g.ends ∙ w.ends; so = f along_next along_at.1 }
+
+  -- to where alone it goes on
+  pub along_only : {a : SiblingWalk} {j n : ℕ} → Along t e a P → Only a.t.now a.end j n → Only t e j n
+  along_only w x = rw (w.same, w.ends) at x
 
 -- among whole subtrees the next sibling is behind node j and what is below it
 pub next_at : {t : List ℕ} {e j n : ℕ} → Next t e j n → Part t j e → n ≡ j + size_at t j
@@ -53,8 +57,8 @@ module _ {t : List ℕ} {e : ℕ} {P : ℕ → Type 0} where
   pub walk_start : {i : ℕ} {v w : SiblingWalk} → w ≡ v → (v.t.now ≡ t) × (v.at ≡ i) × (v.end ≡ e) → Part t i e → P i → Walked t e w P
   walk_start is v p q = along_start is v (record { part = p; so = q })
 
-  pub walk_end : {a b : SiblingWalk} → Walked t e a P → (a.end ≤ a.at) × (b ≡ a) → (e ≤ a.at) × P a.at
-  walk_end w h = let q = h.0 in (omega (arith, w.ends), w.so.so)
+  pub walk_end : {a : SiblingWalk} → Walked t e a P → a.end ≤ a.at → (e ≤ a.at) × P a.at
+  walk_end w h = (omega (arith, w.ends), w.so.so)
 
   module _ {a b : SiblingWalk} {j : ℕ} (w : Walked t e a P) (g : Goes a j b) where
     pub walk_at : Part t j e × (j < e) × P j
@@ -66,11 +70,11 @@ module _ {t : List ℕ} {e : ℕ} {P : ℕ → Type 0} where
 
 -- ---- a step is the only one
 
-pub next_one : {t : List ℕ} {e j n m : ℕ} → Next t e j n → Next t e j m → n ≡ m
+pub next_one : {t : List ℕ} {e j n m : ℕ} → Only t e j n → Only t e j m → n ≡ m
 next_one {t} {e} {j} {n} {m} x y = go (size_at t j) refl
   where
     go : (s : ℕ) → s ≡ size_at t j → n ≡ m
-    go zero q = x.stuck (sym q) ∙ sym (y.stuck (sym q))
+    go zero q = x.next.stuck (sym q) ∙ sym (y.next.stuck (sym q))
     go (suc s) q = x.far (omega (arith, q)) ∙ sym (y.far (omega (arith, q)))
 
 -- Two outcomes of a step of walk a are the same: what it gives, where it stands then, its end and its file.
@@ -82,8 +86,8 @@ pub record Same (r q : Option ℕ) (b c : SiblingWalk) : Type 0 where
 
 pub goes_one : (a b c : SiblingWalk) (r q : Option ℕ) → goes a r b → goes a q c → Same r q b c
 goes_one a b c None None g h = rw (g.1, h.1) (record { gives = refl; at = refl; end = refl; file = refl })
-goes_one a b c None (Some j) g h = absurd (let x = g.0 in omega (arith, h.here, h.next.within))
-goes_one a b c (Some i) None g h = absurd (let x = h.0 in omega (arith, g.here, g.next.within))
+goes_one a b c None (Some j) g h = absurd (let x = g.0 in omega (arith, h.0.here, h.0.next.within))
+goes_one a b c (Some i) None g h = absurd (let x = h.0 in omega (arith, g.0.here, g.0.next.within))
 goes_one a b c (Some i) (Some j) g h =
-    let e : i ≡ j = g.here ∙ sym h.here in
-    record { gives = ap Some e; at = next_one (rw e at (g.next)) h.next; end = g.ends ∙ sym h.ends; file = g.same ∙ sym h.same }
+    let e : i ≡ j = g.0.here ∙ sym h.0.here in
+    record { gives = ap Some e; at = next_one (rw e at (g.1)) h.1; end = g.0.ends ∙ sym h.0.ends; file = g.0.same ∙ sym h.0.same }

@@ -8,12 +8,12 @@ loop-j-init c = along_start c.into_iter-j-iterator.ensures.into_iter_gives c.sib
 
 pub returns-then-is_named : goal.returns-then-is_named
 returns-then-is_named c =
-    let h = along_at c.loop-j.invariant c.in-Some.ensures.steps in named_here c.args.fail c.is_named.ensures h.1 h.0 c.if-is_named.true
+    let h = along_at c.loop-j.invariant c.in-Some.ensures.steps.0 in named_here c.args.fail c.is_named.ensures h.1 h.0 c.if-is_named.true
 
 pub loop-j-preserved : goal.loop-j-preserved
 loop-j-preserved c =
-    along_on c.loop-j.invariant c.in-Some.ensures.steps (λ x h. named_next c.args.fail c.is_named.ensures h x.within (next_at x) c.if-is_named.false)
+    along_on c.loop-j.invariant c.in-Some.ensures.steps.0 (λ x h. named_next c.args.fail c.is_named.ensures h x.within (next_at x) c.if-is_named.false)
 
 pub returns : goal.returns
 returns c =
-    let h = along_end c.loop-j.invariant c.in-None.ensures.steps in named_end c.args.fail h.1 h.0
+    let h = along_end c.loop-j.invariant c.in-None.ensures.steps.0 in named_end c.args.fail h.1 h.0

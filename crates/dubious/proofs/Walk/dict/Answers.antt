@@ -12,16 +12,16 @@ loop-j-init c =
     (empty c.args.self.now.t.now c.args.i c.requires.0 c.requires.1, omega arith, c.requires.1, going _ _)
 
 pub clash-requires : goal.clash-requires
-clash-requires c = (walk_at c.loop-j.invariant c.in-Some.ensures.steps).2.0
+clash-requires c = (walk_at c.loop-j.invariant c.in-Some.ensures.steps.0).2.0
 
 pub loop-j-preserved : goal.loop-j-preserved
 loop-j-preserved c =
-    walk_on c.loop-j.invariant c.in-Some.ensures.steps (λ q lt h.
+    walk_on c.loop-j.invariant c.in-Some.ensures.steps.0 (λ q lt h.
     (onward h.0 q lt, omega (arith, h.1), ended q lt, going_on h.3 _ _ c.clash.ensures (dict_step c.args.self.now.numbers.now h.0 q h.1 lt)))
 
 pub returns : goal.returns
 returns c =
     let ns = c.args.self.now.numbers.now in
     let t = c.args.self.now.t.now in
-    let h = walk_end c.loop-j.invariant c.in-None.ensures.steps in
+    let h = walk_end c.loop-j.invariant c.in-None.ensures.steps.0 in
     rw (sym (dict_start ns t c.args.i c.args.e)) (going_end h.1.3 (dict_end ns t c.args.i c.loop-j.j-iterator.at c.args.e h.0))

@@ -8,11 +8,11 @@ loop-j-init c =
 
 pub loop-j-preserved-then-role_at-role : goal.loop-j-preserved-then-role_at-role
 loop-j-preserved-then-role_at-role c =
-    walk_on c.loop-j.invariant c.in-Some.ensures.steps (λ p lt l. looked_here l p lt (rw c.role_at.ensures.0 at c.if-role_at-role.true))
+    walk_on c.loop-j.invariant c.in-Some.ensures.steps.0 (λ p lt l. looked_here l p lt (rw c.role_at.ensures.0 at c.if-role_at-role.true))
 
 pub loop-j-preserved : goal.loop-j-preserved
 loop-j-preserved c =
-    walk_on c.loop-j.invariant c.in-Some.ensures.steps (λ p lt l. looked_past l p lt (rw c.role_at.ensures.0 at c.if-role_at-role.false))
+    walk_on c.loop-j.invariant c.in-Some.ensures.steps.0 (λ p lt l. looked_past l p lt (rw c.role_at.ensures.0 at c.if-role_at-role.false))
 
 pub returns : goal.returns
-returns c = let h = walk_end c.loop-j.invariant c.in-None.ensures.steps in looked_end h.1 h.0
+returns c = let h = walk_end c.loop-j.invariant c.in-None.ensures.steps.0 in looked_end h.1 h.0

@@ -17,16 +17,16 @@ each-loop-j-init t c =
 
 pub each-reachable-requires : goal.each-reachable-requires
 each-reachable-requires t c =
-    let h = walk_at c.loop-j.invariant c.in-Some.ensures.steps in
+    let h = walk_at c.loop-j.invariant c.in-Some.ensures.steps.0 in
     (omega (arith, c.decreases, h.1, h.2.0, ended h.0 h.1), record { part = first h.0 h.1; some = sized h.0 h.1 })
 
 pub each-loop-j-preserved : goal.each-loop-j-preserved
 each-loop-j-preserved t c =
-    walk_on c.loop-j.invariant c.in-Some.ensures.steps (λ p lt h. (omega (arith, h.0), going_on h.1 _ _ c.reachable.ensures.written (each_next (is_name c.args.fail) p lt)))
+    walk_on c.loop-j.invariant c.in-Some.ensures.steps.0 (λ p lt h. (omega (arith, h.0), going_on h.1 _ _ c.reachable.ensures.written (each_next (is_name c.args.fail) p lt)))
 
 pub each-returns : goal.each-returns
 each-returns t c =
-    let h = walk_end c.loop-j.invariant c.in-None.ensures.steps in
+    let h = walk_end c.loop-j.invariant c.in-None.ensures.steps.0 in
     going_end h.1.1 (each_past (is_name c.args.fail) c.args.t.now c.loop-j.j-iterator.at c.args.e h.0)
 
 pub in_list-loop-j-init : goal.in_list-loop-j-init
@@ -35,23 +35,23 @@ in_list-loop-j-init t c =
 
 pub in_list-reachable-aborts-requires : goal.in_list-reachable-aborts-requires
 in_list-reachable-aborts-requires t c =
-    let h = walk_at c.loop-j.invariant c.in-Some.ensures.steps in
+    let h = walk_at c.loop-j.invariant c.in-Some.ensures.steps.0 in
     (omega (arith, c.decreases, h.1, h.2.0, ended h.0 h.1), record { part = first h.0 h.1; some = sized h.0 h.1 })
 
 pub in_list-loop-j-preserved : goal.in_list-loop-j-preserved
 in_list-loop-j-preserved t c =
-    walk_on c.loop-j.invariant c.in-Some.ensures.steps (λ p lt h.
+    walk_on c.loop-j.invariant c.in-Some.ensures.steps.0 (λ p lt h.
     let x = list_again (is_name c.args.fail) p lt c.loop-j.aborts c.if-aborts.false h.1 h.2 c.reachable-aborts.ensures in (omega (arith, h.0), x.0, x.1))
 
 pub in_list-returns-then-aborts : goal.in_list-returns-then-aborts
 in_list-returns-then-aborts t c =
-    let h = walk_at c.loop-j.invariant c.in-Some.ensures.steps in
+    let h = walk_at c.loop-j.invariant c.in-Some.ensures.steps.0 in
     let w = added_as _ (unreached_some c.args.t.now c.in-Some.j c.args.e h.0 h.1) c.put_plainly.ensures in
     rw c.if-aborts.true at (list_stopped (is_name c.args.fail) c.args.t.now c.args.i c.in-Some.j c.args.e c.loop-j.aborts c.if-aborts.true h.2.1 h.2.2 w)
 
 pub in_list-returns : goal.in_list-returns
 in_list-returns t c =
-    let h = walk_end c.loop-j.invariant c.in-None.ensures.steps in
+    let h = walk_end c.loop-j.invariant c.in-None.ensures.steps.0 in
     list_done (is_name c.args.fail) c.args.t.now c.args.i c.loop-j.j-iterator.at c.args.e c.loop-j.aborts h.0 h.1.1 h.1.2
 
 pub reachable-returns-then-k : goal.reachable-returns-then-k

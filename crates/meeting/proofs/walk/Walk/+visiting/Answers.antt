@@ -57,16 +57,16 @@ visit-loop-c-init t c =
 
 pub visit-step-requires : goal.visit-step-requires
 visit-step-requires t c =
-    let h = walk_at c.loop-c.invariant c.in-Some.ensures.steps in
+    let h = walk_at c.loop-c.invariant c.in-Some.ensures.steps.0 in
     rw h.2.1.file (omega (arith, c.decreases, ended h.0 h.1, h.2.0), whole_at h.0 h.1)
 
 pub visit-loop-c-preserved : goal.visit-loop-c-preserved
 visit-loop-c-preserved t c =
-    walk_on c.loop-c.invariant c.in-Some.ensures.steps (λ p lt h.
+    walk_on c.loop-c.invariant c.in-Some.ensures.steps.0 (λ p lt h.
     let f : c.step.new.self.t.now ≡ c.args.self.now.t.now = c.step.ensures.file ∙ h.1.file in
     (omega (arith, h.0), walk_goes c.step.new.self (λ (u : List ℕ). at (step (meant c.loop-c.ask)) u c.in-Some.c) _ h.1 (visit_next c.args.self.now.t.now (meant c.loop-c.ask) (meant c.after-ask.result) p lt (rw f at c.role_at.ensures.0) c.after-ask.ensures refl) c.step.ensures))
 
 pub visit-returns : goal.visit-returns
 visit-returns t c =
-    let h = walk_end c.loop-c.invariant c.in-None.ensures.steps in
+    let h = walk_end c.loop-c.invariant c.in-None.ensures.steps.0 in
     walk_ends h.1.1 (visit_done c.args.self.now.t.now (meant c.loop-c.ask) c.loop-c.c-iterator.at c.args.e h.0)

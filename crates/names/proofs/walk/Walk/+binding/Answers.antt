@@ -22,20 +22,20 @@ bind-loop-i-init t c = (
 
 pub bind-bind_one-s-requires : goal.bind-bind_one-s-requires
 bind-bind_one-s-requires t c =
-    let h = walk_at c.loop-i.invariant.1 c.in-Some.ensures.steps in let n = ended h.0 h.1 in
+    let h = walk_at c.loop-i.invariant.1 c.in-Some.ensures.steps.0 in let n = ended h.0 h.1 in
     (omega (arith, c.decreases, h.1, h.2.0, c.loop-i.invariant.0), (node_in_part h.0 h.1 (omega arith), h.2.1))
 
 pub bind-loop-i-preserved : goal.bind-loop-i-preserved
 bind-loop-i-preserved t c =
     let g = c.bind_one-s.ensures in (
       c.loop-i.invariant.0,
-      walk_on c.loop-i.invariant.1 c.in-Some.ensures.steps (λ p lt h.
+      walk_on c.loop-i.invariant.1 c.in-Some.ensures.steps.0 (λ p lt h.
           (omega (arith, h.0), goes_fits (g 0), omega (arith, h.2), λ d v y q. h.3 d v y (names_on (number c.args.role) (used_by c.args.binding) p lt (g d) q))),
     )
 
 pub bind-returns : goal.bind-returns
 bind-returns t c =
-    let h = walk_end c.loop-i.invariant.1 c.in-None.ensures.steps in
+    let h = walk_end c.loop-i.invariant.1 c.in-None.ensures.steps.0 in
     λ d. h.1.3 d _ _ (names_last (number c.args.role) (used_by c.args.binding) c.loop-i.i-iterator.at _ h.0 h.1.1)
 
 pub bind_one-returns-then-role_at-role : goal.bind_one-returns-then-role_at-role

@@ -138,19 +138,19 @@ later-loop-i-init t c =
 
 pub later-clause-s-requires : goal.later-clause-s-requires
 later-clause-s-requires t c =
-    let h = walk_at c.loop-i.invariant.1 c.in-Some.ensures.steps in let n = ended h.0 h.1 in
+    let h = walk_at c.loop-i.invariant.1 c.in-Some.ensures.steps.0 in let n = ended h.0 h.1 in
     (omega (arith, c.decreases, h.1, h.2.0, c.loop-i.invariant.0), (node_in_part h.0 h.1 (omega (arith, c.requires.2.deep, h.2.0)), h.2.1))
 
 pub later-loop-i-preserved : goal.later-loop-i-preserved
 later-loop-i-preserved t c =
     let g = c.clause-s.ensures in (
       c.loop-i.invariant.0,
-      walk_on c.loop-i.invariant.1 c.in-Some.ensures.steps (λ p lt h. (omega (arith, h.0), goes_fits g, omega (arith, h.2), λ v y q. h.3 v y (clauses_on c.args.self.now.fail p lt g q))),
+      walk_on c.loop-i.invariant.1 c.in-Some.ensures.steps.0 (λ p lt h. (omega (arith, h.0), goes_fits g, omega (arith, h.2), λ v y q. h.3 v y (clauses_on c.args.self.now.fail p lt g q))),
     )
 
 pub later-returns : goal.later-returns
 later-returns t c =
-    let h = walk_end c.loop-i.invariant.1 c.in-None.ensures.steps in h.1.3 _ _ (clauses_last c.args.self.now.fail c.loop-i.i-iterator.at _ h.0 h.1.1)
+    let h = walk_end c.loop-i.invariant.1 c.in-None.ensures.steps.0 in h.1.3 _ _ (clauses_last c.args.self.now.fail c.loop-i.i-iterator.at _ h.0 h.1.1)
 
 pub loops-turn-s-requires : goal.loops-turn-s-requires
 loops-turn-s-requires t c =
@@ -219,17 +219,17 @@ visit-loop-c-init t c =
 
 pub visit-step-s-requires : goal.visit-step-s-requires
 visit-step-s-requires t c =
-    let h = walk_at c.loop-c.invariant c.in-Some.ensures.steps in let n = ended h.0 h.1 in
+    let h = walk_at c.loop-c.invariant c.in-Some.ensures.steps.0 in let n = ended h.0 h.1 in
     (omega (arith, c.decreases, h.1, h.2.0), (node_in_part h.0 h.1 (omega (arith, c.requires.1, h.2.0)), omega (arith, c.requires.1, h.2.0), h.2.1))
 
 pub visit-loop-c-preserved : goal.visit-loop-c-preserved
 visit-loop-c-preserved t c =
     let g = c.step-s.ensures in
-    walk_on c.loop-c.invariant c.in-Some.ensures.steps (λ p lt h. (omega (arith, h.0), goes_fits g, omega (arith, h.2), λ v y q. h.3 v y (visit_on c.args.self.now.fail c.args.wanted p lt g q)))
+    walk_on c.loop-c.invariant c.in-Some.ensures.steps.0 (λ p lt h. (omega (arith, h.0), goes_fits g, omega (arith, h.2), λ v y q. h.3 v y (visit_on c.args.self.now.fail c.args.wanted p lt g q)))
 
 pub visit-returns : goal.visit-returns
 visit-returns t c =
-    let h = walk_end c.loop-c.invariant c.in-None.ensures.steps in
+    let h = walk_end c.loop-c.invariant c.in-None.ensures.steps.0 in
     h.1.3 _ _ (visit_last c.args.self.now.fail c.args.wanted c.loop-c.c-iterator.at c.args.e h.0 h.1.1)
 
 pub stmt-returns-then-k-5 : goal.stmt-returns-then-k-5
