@@ -18,7 +18,7 @@ pub record Goes (a : SiblingWalk) (j : ℕ) (b : SiblingWalk) : Type 0 where
   pub ends : b.end ≡ a.end
   pub next : Next a.t.now a.end j b.at
 
--- n alone is next to node j: behind it by its size past the end too.
+-- n alone is next to node j: behind it by its size past the end too, up to the largest number of 64 bits.
 pub record Only (t : List ℕ) (e j n : ℕ) : Type 0 where
   pub next : Next t e j n
   pub far : 1 ≤ size_at t j → n ≡ min (j + size_at t j) 18446744073709551615
